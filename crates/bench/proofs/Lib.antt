@@ -1,0 +1,5 @@
+pub mod Answering
+pub mod Chaining
+pub mod Rooms
+pub mod StudyLoop
+pub mod Studying

@@ -1,0 +1,2 @@
+pub mod ByRules
+pub mod InRange

@@ -1,0 +1,5 @@
+pub mod Guarantee
+pub mod Log
+pub mod Races
+pub mod Study
+pub mod Table
