@@ -1,9 +1,12 @@
 //! The bench and its steps.
 
 ghost use mathlib.Core.Path.{_≡_};
+ghost use Rattle.protocol.specs.Meaning.{First-open, image-of};
 ghost use Rattle.protocol.specs.Steps.{Fit};
 ghost use Rattle.protocol.specs.declared.steps.Step.the-variants.{Load, Store, Acquire, Release, Evict, Move};
-ghost use Rattle.races.specs.Study.{Takes};
+ghost use Rattle.races.specs.Log.{Log, empty-log};
+ghost use Rattle.races.specs.Races.{number, first-race};
+ghost use Rattle.races.specs.Study.{Takes, Watched};
 ghost use Rattle.races.specs.Table.{start};
 use protocol::Protocol;
 use protocol::Refusal;
@@ -40,7 +43,9 @@ fn ask<P: Protocol>(protocol: &mut P, step: Step) -> Reply
 impl<P: Protocol> Bench<P> {
     /// Sets a bench up over a protocol, in whatever state that is.
     pub fn new(mut protocol: P) -> Bench<P>
-        ensures { λ r. ⌜ machine .fresh (state (r .protocol)) ⌝ ∗ ⌜ r .races ≡ start ⌝ }
+        ensures fresh { λ r. ⌜ machine .fresh (state (r .protocol)) ⌝ }
+        ensures table { λ r. ⌜ r .races ≡ start ⌝ }
+        ensures begins { λ r. ⌜ Watched machine (state (r .protocol)) (r .races) empty-log ⌝ }
     {
         protocol.clear();
         Bench {
@@ -51,7 +56,9 @@ impl<P: Protocol> Bench<P> {
 
     /// Sets the bench up again: the protocol is cleared, and a new study begins.
     pub fn set_up(&mut self)
-        ensures { λ _. ⌜ machine .fresh (state (now (self .exit) .protocol)) ⌝ ∗ ⌜ now (self .exit) .races ≡ start ⌝ }
+        ensures fresh { λ _. ⌜ machine .fresh (state (now (self .exit) .protocol)) ⌝ }
+        ensures table { λ _. ⌜ now (self .exit) .races ≡ start ⌝ }
+        ensures begins { λ _. ⌜ Watched machine (state (now (self .exit) .protocol)) (now (self .exit) .races) empty-log ⌝ }
     {
         self.protocol.clear();
         self.races = RaceTable::new();
@@ -108,28 +115,32 @@ impl<P: Protocol> Bench<P> {
 
     /// How many core calls have ended, at most 65,535.
     pub fn ended(&self) -> u16
-        ensures { λ r. ⌜ r ≡ now (self .entry) .races .ended ⌝ }
+        ensures value { λ r. ⌜ r ≡ now (self .entry) .races .ended ⌝ }
+        ensures counts { λ r. ⌜ ((log : Log) → Watched machine (state (now (self .entry) .protocol)) (now (self .entry) .races) log → r ≡ number (log .ended)) ⌝ }
     {
-        self.races.ended()
+        self.races.ended
     }
 
     /// The number of the first race, or 0.
     pub fn first_race(&self) -> u16
-        ensures { λ r. ⌜ r ≡ now (self .entry) .races .«first_race» ⌝ }
+        ensures value { λ r. ⌜ r ≡ now (self .entry) .races .«first_race» ⌝ }
+        ensures counts { λ r. ⌜ ((log : Log) → Watched machine (state (now (self .entry) .protocol)) (now (self .entry) .races) log → r ≡ first-race (log .ended)) ⌝ }
     {
-        self.races.first_race()
+        self.races.first_race
     }
 
     /// The byte at home of an address.
     pub fn image(&self, address: u8) -> Result<u8, Refusal>
-        ensures { λ r. ⌜ machine .images (state (now (self .entry) .protocol)) address r ⌝ }
+        ensures answers { λ r. ⌜ machine .images (state (now (self .entry) .protocol)) address r ⌝ }
+        ensures means { λ r. ⌜ ((log : Log) → Watched machine (state (now (self .entry) .protocol)) (now (self .entry) .races) log → r ≡ image-of (machine .moment (state (now (self .entry) .protocol))) address) ⌝ }
     {
         self.protocol.image(address)
     }
 
     /// The first open place at or after a place.
     pub fn next_open(&self, place: u8) -> Option<u8>
-        ensures { λ r. ⌜ machine .opens (state (now (self .entry) .protocol)) place r ⌝ }
+        ensures answers { λ r. ⌜ machine .opens (state (now (self .entry) .protocol)) place r ⌝ }
+        ensures means { λ r. ⌜ ((log : Log) → Watched machine (state (now (self .entry) .protocol)) (now (self .entry) .races) log → First-open (machine .moment (state (now (self .entry) .protocol))) place r) ⌝ }
     {
         self.protocol.next_open(place)
     }

@@ -5,6 +5,13 @@ ghost use Prim.Native.Nat.{_/_, _%_, _<_};
 ghost use Rattle.protocol.specs.Cells.{core-named, address-named, line-named, line-of, offset-of, numbered};
 use crate::steps::Refusal;
 
+/// How many cores, addresses and lines there are.
+const CORES: u8 = 8;
+
+const ADDRESSES: u8 = 64;
+
+const LINES: u8 = 8;
+
 /// A core, 0 to 7.
 #[derive(Clone, Copy)]
 pub struct Core {
@@ -38,17 +45,19 @@ impl Core {
     pub fn new(number: u8) -> Result<Core, Refusal>
         ensures { λ r. ⌜ numbered (λ x. x .number) r ≡ core-named number ⌝ }
     {
-        if number < 8 {
+        if number < CORES {
             Ok(Core { number })
         } else {
             Err(Refusal::NoSuchCore)
         }
     }
 
+    /// The core's index in a table of cores.
     pub fn index(self) -> usize
         ensures { λ r. ⌜ r ≡ self .number ⌝ }
     {
-        self.number as usize
+        let core = self.number;
+        core as usize
     }
 }
 
@@ -57,7 +66,7 @@ impl Address {
     pub fn new(number: u8) -> Result<Address, Refusal>
         ensures { λ r. ⌜ numbered (λ x. x .number) r ≡ address-named number ⌝ }
     {
-        if number < 64 {
+        if number < ADDRESSES {
             Ok(Address { number })
         } else {
             Err(Refusal::NoSuchAddress)
@@ -88,24 +97,28 @@ impl Line {
     pub fn new(number: u8) -> Result<Line, Refusal>
         ensures { λ r. ⌜ numbered (λ x. x .number) r ≡ line-named number ⌝ }
     {
-        if number < 8 {
+        if number < LINES {
             Ok(Line { number })
         } else {
             Err(Refusal::NoSuchAddress)
         }
     }
 
+    /// The line's index in a table of lines.
     pub fn index(self) -> usize
         ensures { λ r. ⌜ r ≡ self .number ⌝ }
     {
-        self.number as usize
+        let line = self.number;
+        line as usize
     }
 }
 
 impl Offset {
+    /// The byte's index in its line.
     pub fn index(self) -> usize
         ensures { λ r. ⌜ r ≡ self .number ⌝ }
     {
-        self.number as usize
+        let offset = self.number;
+        offset as usize
     }
 }

@@ -26,8 +26,10 @@ pub struct Newest {
 #[derive(Clone, Copy)]
 pub struct RaceTable {
     newest: [Newest; 64],
-    ended: u16,
-    first_race: u16,
+    /// How many core calls have ended, at most 65,535.
+    pub ended: u16,
+    /// The number of the first race, or 0.
+    pub first_race: u16,
 }
 
 impl Newest {
@@ -128,20 +130,6 @@ impl RaceTable {
             ended: 0,
             first_race: 0,
         }
-    }
-
-    /// How many core calls have ended, at most 65,535.
-    pub fn ended(&self) -> u16
-        ensures { λ r. ⌜ r ≡ now (self .entry) .ended ⌝ }
-    {
-        self.ended
-    }
-
-    /// The number of the first race, or 0.
-    pub fn first_race(&self) -> u16
-        ensures { λ r. ⌜ r ≡ now (self .entry) .«first_race» ⌝ }
-    {
-        self.first_race
     }
 
     /// Whether a call that has just ended races.

@@ -20,7 +20,7 @@ pub returns-in-Settle : need.returns-in-Settle
 returns-in-Settle g c = settle-answered (g .P·Protocol .machine) (c .in-Settle .is) (c .pre) (c .settle-moves .ensures)
 
 pub returns-in-Image : need.returns-in-Image
-returns-in-Image g c = image-answered (g .P·Protocol .machine) (c .args .outcomes .now) (c .in-Image .is) (c .image .ensures)
+returns-in-Image g c = image-answered (g .P·Protocol .machine) (c .args .outcomes .now) (c .in-Image .is) (c .image .ensures .answers)
 
 pub returns-in-NextOpen : need.returns-in-NextOpen
-returns-in-NextOpen g c = open-answered (g .P·Protocol .machine) (c .args .outcomes .now) (c .in-NextOpen .is) (c .next-open .ensures)
+returns-in-NextOpen g c = open-answered (g .P·Protocol .machine) (c .args .outcomes .now) (c .in-NextOpen .is) (c .next-open .ensures .answers)

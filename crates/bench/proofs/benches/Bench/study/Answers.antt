@@ -37,6 +37,6 @@ loop-index-again g c =
 pub returns : need.returns
 returns g c =
     record {
-      made = study-done (g .P·Protocol .machine) (g .P·Protocol·met .keeps) _ _ _ _ (c .args .requests .now) (c .args .answers .now) (c .loop-index .answers) (c .args .outcomes .now) (c .loop-index .outcomes) (c .loop-index .index) (c .loop-index .at) (c .set-up .ensures .0) (c .set-up .ensures .1) (c .loop-index .inv) (omega arith) (omega arith) (leb-true _ _ (sym (c .fit .ensures) ∙ c .if-not-fit .left));
+      made = study-done (g .P·Protocol .machine) (g .P·Protocol·met .keeps) _ _ _ _ (c .args .requests .now) (c .args .answers .now) (c .loop-index .answers) (c .args .outcomes .now) (c .loop-index .outcomes) (c .loop-index .index) (c .loop-index .at) (c .set-up .ensures .fresh) (c .set-up .ensures .table) (c .loop-index .inv) (omega arith) (omega arith) (leb-true _ _ (sym (c .fit .ensures) ∙ c .if-not-fit .left));
       untouched = λ e. absurd (true≢false e);
     }
