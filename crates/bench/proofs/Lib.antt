@@ -1,5 +1,6 @@
 pub mod Answering
 pub mod Chaining
+pub mod Computing
 pub mod Rooms
 pub mod StudyLoop
 pub mod Studying

@@ -1,3 +1,4 @@
 pub mod Chains
+pub mod Computed
 pub mod Faults
 pub mod Requests

@@ -28,7 +28,15 @@ fn call_of(call: Ended) -> Step
 {
     match call {
         Ended::Loaded { core, address, .. } => Step::Load { core, address },
-        Ended::Stored { core, address, byte } => Step::Store { core, address, byte },
+        Ended::Stored {
+            core,
+            address,
+            byte,
+        } => Step::Store {
+            core,
+            address,
+            byte,
+        },
         Ended::Acquired { core } => Step::Acquire { core },
         Ended::Released { core } => Step::Release { core },
         Ended::Evicted { core, line } => Step::Evict { core, line },
@@ -101,11 +109,7 @@ fn mark_shown(outcome: Outcome) -> u8
 {
     match outcome {
         Outcome::Ended { race, .. } | Outcome::Finished { race, .. } => {
-            if race {
-                b'!'
-            } else {
-                b'.'
-            }
+            if race { b'!' } else { b'.' }
         }
         _ => b'.',
     }
@@ -152,6 +156,28 @@ pub fn ended_line(ended: u16, race: u16) -> [u8; 23]
     let [a, b, c, d, e] = decimal_digits(ended);
     let [v, w, x, y, z] = decimal_digits(race);
     [
-        b'e', b'n', b'd', b'e', b'd', b' ', a, b, c, d, e, b' ', b'r', b'a', b'c', b'e', b' ', v, w, x, y, z, b'\n',
+        b'e',
+        b'n',
+        b'd',
+        b'e',
+        b'd',
+        b' ',
+        a,
+        b,
+        c,
+        d,
+        e,
+        b' ',
+        b'r',
+        b'a',
+        b'c',
+        b'e',
+        b' ',
+        v,
+        w,
+        x,
+        y,
+        z,
+        b'\n',
     ]
 }

@@ -1,0 +1,4 @@
+pub mod Alone
+pub mod Law
+pub mod Read
+pub mod Whole
