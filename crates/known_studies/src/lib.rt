@@ -1,0 +1,172 @@
+//! The studies with known ends: as facts of the rules, by one computed check over their list.
+
+ghost use mathlib.Core.Path.{_≡_};
+ghost use mathlib.Core.Bool.{true};
+ghost use Rattle.known_studies.specs.Shown.{all-known};
+ghost use Rattle.known_studies.specs.Cases.{cases};
+
+/// Every known study comes out under the rules as it is known.
+pub fn studies_hold() -> bool
+    ensures facts { λ _. ⌜ all-known cases ≡ true ⌝ }
+    ensures value { λ r. ⌜ r ≡ true ⌝ }
+{
+    true
+}
+
+#[cfg(test)]
+mod tests {
+    use bench::Bench;
+    use bench::Cause;
+    use bench::CauseDebug;
+    use bench::CausePartialEq;
+    use bench::Fault;
+    use bench::FaultDebug;
+    use bench::FaultPartialEq;
+    use bench::Layer;
+    use bench::LayerDebug;
+    use bench::LayerPartialEq;
+    use mesi::Mesi;
+    use mesi::MesiProtocol;
+    use protocol::EndedDebug;
+    use protocol::EndedPartialEq;
+    use protocol::Protocol;
+    use protocol::Refusal;
+    use protocol::RefusalDebug;
+    use protocol::RefusalPartialEq;
+    use protocol::Step;
+    use races::Outcome;
+    use races::OutcomeDebug;
+    use races::OutcomePartialEq;
+    use report::step_line;
+    use std::test::*;
+
+    // One step of a study, and the line that it must print.
+    #[derive(Clone, Copy)]
+    struct Shown {
+        step: Step,
+        line: [u8; 14],
+    }
+
+    fn prints<P: Protocol + Drop>(protocol: P, study: &[Shown]) -> Result<(), Fail> {
+        let mut bench = Bench::new(protocol);
+        for shown in study {
+            let outcome = bench.step(shown.step);
+            check_eq(step_line(shown.step, outcome), shown.line)?;
+        }
+        Ok(())
+    }
+
+    #[test]
+    fn mesi_passes_a_byte() -> Result<(), Fail> {
+        let study = [
+            Shown {
+                step: Step::Store {
+                    core: 0,
+                    address: 10,
+                    byte: 0x41,
+                },
+                line: *b"E 0 S 41 . 00\n",
+            },
+            Shown {
+                step: Step::Load {
+                    core: 1,
+                    address: 10,
+                },
+                line: *b"E 1 L 41 ! 00\n",
+            },
+            Shown {
+                step: Step::Release { core: 0 },
+                line: *b"E 0 P -- . 00\n",
+            },
+            Shown {
+                step: Step::Acquire { core: 1 },
+                line: *b"E 1 A -- . 00\n",
+            },
+            Shown {
+                step: Step::Load {
+                    core: 1,
+                    address: 10,
+                },
+                line: *b"E 1 L 41 . 00\n",
+            },
+            Shown {
+                step: Step::Evict { core: 0, line: 1 },
+                line: *b"E 0 X -- . 00\n",
+            },
+            Shown {
+                step: Step::Move { place: 0 },
+                line: *b"R - - -- . 04\n",
+            },
+            Shown {
+                step: Step::Load {
+                    core: 0,
+                    address: 64,
+                },
+                line: *b"R 0 L -- . 02\n",
+            },
+            Shown {
+                step: Step::Load {
+                    core: 8,
+                    address: 64,
+                },
+                line: *b"R - L -- . 01\n",
+            },
+        ];
+        prints(Mesi::new(), &study)
+    }
+
+    #[test]
+    fn a_run_without_room_changes_nothing() -> Result<(), Fail> {
+        let mut bench = Bench::new(Mesi::new());
+        let steps = [Step::Acquire { core: 0 }; 3];
+        let mut outcomes = [Outcome::Moved; 2];
+        check_eq(
+            bench.run(&steps, &mut outcomes),
+            Err(Fault {
+                cause: Cause::TooFewOutcomes,
+                place: 0,
+                layer: Layer::Caller,
+            }),
+        )?;
+        check_eq(outcomes, [Outcome::Moved; 2])?;
+        check_eq(bench.ended(), 0)
+    }
+
+    #[test]
+    fn settling_needs_no_room_to_answer() -> Result<(), Fail> {
+        let mut bench = Bench::new(Mesi::new());
+        let mut outcomes = [Outcome::Waits; 0];
+        check_eq(bench.settle(&mut outcomes), (0, false))
+    }
+
+    #[test]
+    fn images_are_refused_from_64_on() -> Result<(), Fail> {
+        let bench = Bench::new(Mesi::new());
+        check_eq(bench.image(63), Ok(0))?;
+        check_eq(bench.image(64), Err(Refusal::NoSuchAddress))
+    }
+
+    // Past 65,535 ended calls the numbers stay, and races are still marked.
+    #[test]
+    fn numbers_stop_at_65535() -> Result<(), Fail> {
+        let mut bench = Bench::new(Mesi::new());
+        let _ = bench.store(0, 10, 0x41);
+        for _ in 0..70_000u32 {
+            let _ = bench.load(0, 10);
+        }
+        check_eq(bench.ended(), 65_535)?;
+        check_eq(bench.first_race(), 0)?;
+        let outcome = bench.load(1, 10);
+        check_eq(
+            step_line(
+                Step::Load {
+                    core: 1,
+                    address: 10,
+                },
+                outcome,
+            ),
+            *b"E 1 L 41 ! 00\n",
+        )?;
+        check_eq(bench.first_race(), 65_535)
+    }
+}
