@@ -4,6 +4,13 @@ ghost use mathlib.Core.Path.{_≡_};
 ghost use mathlib.Core.Bool.{true};
 ghost use Rattle.known_studies.specs.Shown.{all-known};
 ghost use Rattle.known_studies.specs.Cases.{cases};
+ghost use Rattle.protocol.specs.declared.steps.Ended.the-variants.{Loaded};
+ghost use Rattle.races.specs.declared.outcomes.Outcome.the-variants.{Ended as Has-ended};
+ghost use mathlib.Core.Bool.{false};
+use bench::Bench;
+use mesi::Mesi;
+use mesi::MesiProtocol;
+use races::Outcome;
 
 /// Every known study comes out under the rules as it is known.
 pub fn studies_hold() -> bool
@@ -11,6 +18,18 @@ pub fn studies_hold() -> bool
     ensures value { λ r. ⌜ r ≡ true ⌝ }
 {
     true
+}
+
+/// Core 0 hands a byte over to core 1 under bus MESI. That core 1 loads that byte, without a race, is shown by the guarantee of every
+/// study, and not by the rules of MESI.
+pub fn hand_over(bench: &mut Bench<Mesi>) -> Outcome
+    ensures { λ r. ⌜ r ≡ Has-ended (Loaded 1 10 65) false ⌝ }
+{
+    bench.set_up();
+    let _ = bench.store(0, 10, 65);
+    let _ = bench.release(0);
+    let _ = bench.acquire(1);
+    bench.load(1, 10)
 }
 
 #[cfg(test)]
