@@ -29,7 +29,7 @@ module _ (M : Machine) (means : Meaning M) where
       let r = study-kept M means (h .study) .reached in
       record { coherent = coherent M means (h .study); counted = counted M means s w log h; images = λ a x i. means .image s a x r i; opens = λ p o i. means .next s p o r i }
 
-  holds-along : {Chosen : M .State → Step → Type 0} {s t : M .State} {w v : RaceTable} {ks : List Step} {rs : List Outcome} (c : Chain M Chosen s w ks rs t v) (log : Log) → Watched M s w log → Holds-along log c
+  pub holds-along : {Chosen : M .State → Step → Type 0} {s t : M .State} {w v : RaceTable} {ks : List Step} {rs : List Outcome} (c : Chain M Chosen s w ks rs t v) (log : Log) → Watched M s w log → Holds-along log c
   holds-along (nothing {s} {w}) log h = holds s w log h
   holds-along (then {s} {t} {u} {w} {v} {x} {k} {r} c g l) log h = (holds s w log h, g .mark-is log h, holds-along l (feed log k (reply-of r)) (g .carries log h))
 

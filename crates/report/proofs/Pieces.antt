@@ -1,14 +1,21 @@
 -- A step's line is made of its pieces: the two-digit pieces have two digits.
 use mathlib.Core.Path.{_≡_, refl, sym, ap, _∙_}
 use mathlib.Core.List.{List, [], _∷_, _++_}
-use Prim.Native.Nat.{ℕ}
+use mathlib.Core.Bool.{Bool, true, false, cond}
+use Prim.Native.Nat.{ℕ, _+_}
 use native.Mathlib.Omega.{arith}
-use lib.ListN.{length, getD}
+use lib.Dec.{ltb}
+use lib.ListN.{length, getD, length-append}
+use Rattle.std.specs.declared.option.Option.{Option}
+use Rattle.std.specs.declared.option.Option.the-variants.{Some, None}
+use Rattle.protocol.specs.declared.steps.Step.{Step}
+use Rattle.protocol.specs.declared.steps.Step.the-variants.{Load, Store, Acquire, Release, Evict, Move}
 use Rattle.protocol.specs.declared.steps.Ended.{Ended}
 use Rattle.protocol.specs.declared.steps.Ended.the-variants.{Loaded, Stored, Acquired, Released, Evicted}
 use Rattle.races.specs.declared.outcomes.Outcome.{Outcome}
 use Rattle.races.specs.declared.outcomes.Outcome.the-variants.{Refused, Waits, Ended as Has-ended, Moved, Finished}
-use Rattle.report.specs.Lines.{byte-of-ended, byte-shown, refusal-shown, space, line-end}
+use Rattle.races.specs.Table.{mark-of}
+use Rattle.report.specs.Lines.{outcome-letter, shown-call, core-shown, call-letter, byte-of-ended, byte-shown, mark-shown, refusal-shown, space, line-end, step-line}
 
 two-digits : (b : List ℕ) → length b ≡ 2 → getD b 0 0 ∷ (getD b 1 0 ∷ []) ≡ b
 two-digits [] h = absurd (omega arith)
@@ -46,3 +53,44 @@ pieces o c l m b f os cs ls bs ms fs e₁ e₂ e₃ e₄ e₅ e₆ n k =
     let b-is : getD b 0 0 ∷ (getD b 1 0 ∷ []) ≡ bs = two-digits b (ap length e₄ ∙ n) ∙ e₄ in
     let f-is : getD f 0 0 ∷ (getD f 1 0 ∷ []) ≡ fs = two-digits f (ap length e₆ ∙ k) ∙ e₆ in
     λ i. joined (e₁ i) (e₂ i) (e₃ i) (b-is i) (e₅ i) (f-is i)
+
+one-if : (t : Bool) (x y : ℕ) → length (cond t (x ∷ []) (y ∷ [])) ≡ 1
+one-if true x y = refl
+one-if false x y = refl
+
+letter-one : (r : Outcome) → length (outcome-letter r) ≡ 1
+letter-one (Refused e) = refl
+letter-one Waits = refl
+letter-one (Has-ended x race) = refl
+letter-one Moved = refl
+letter-one (Finished x race) = refl
+
+core-one : (o : Option Step) → length (core-shown o) ≡ 1
+core-one None = refl
+core-one (Some (Load c a)) = one-if (ltb c 8) (48 + c) 45
+core-one (Some (Store c a b)) = one-if (ltb c 8) (48 + c) 45
+core-one (Some (Acquire c)) = one-if (ltb c 8) (48 + c) 45
+core-one (Some (Release c)) = one-if (ltb c 8) (48 + c) 45
+core-one (Some (Evict c l)) = one-if (ltb c 8) (48 + c) 45
+core-one (Some (Move p)) = refl
+
+call-one : (o : Option Step) → length (call-letter o) ≡ 1
+call-one None = refl
+call-one (Some (Load c a)) = refl
+call-one (Some (Store c a b)) = refl
+call-one (Some (Acquire c)) = refl
+call-one (Some (Release c)) = refl
+call-one (Some (Evict c l)) = refl
+call-one (Some (Move p)) = refl
+
+mark-one : (t : Bool) → length (mark-shown t) ≡ 1
+mark-one true = refl
+mark-one false = refl
+
+joined-length : (o c l b m f : List ℕ) → length o ≡ 1 → length c ≡ 1 → length l ≡ 1 → length b ≡ 2 → length m ≡ 1 → length f ≡ 2 → length (joined o c l b m f) ≡ 14
+joined-length o c l b m f e₁ e₂ e₃ e₄ e₅ e₆ = simp length-append (omega arith)
+
+-- A step's line has fourteen bytes.
+pub line-length : (k : Step) (r : Outcome) → length (step-line k r) ≡ 14
+line-length k r =
+    joined-length (outcome-letter r) (core-shown (shown-call k r)) (call-letter (shown-call k r)) (byte-shown r) (mark-shown (mark-of r)) (refusal-shown r) (letter-one r) (core-one (shown-call k r)) (call-one (shown-call k r)) (byte-two r) (mark-one (mark-of r)) (refusal-two r)

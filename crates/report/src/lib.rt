@@ -3,5 +3,7 @@
 mod digits;
 mod lines;
 
+pub use digits::byte_digits;
+pub use digits::decimal_digits;
 pub use lines::ended_line;
 pub use lines::step_line;

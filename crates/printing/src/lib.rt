@@ -1,0 +1,7 @@
+//! Whole studies, printed.
+
+mod faults;
+mod pages;
+
+pub use faults::fault_line;
+pub use pages::print_study;
