@@ -41,17 +41,51 @@ fn ask<P: Protocol>(protocol: &mut P, step: Step) -> Reply
 }
 
 impl<P: Protocol> Bench<P> {
+    fn count(&self) -> u16
+        ensures { λ r. ⌜ r ≡ now (self .entry) .races .ended ⌝ }
+    {
+        self.races.ended
+    }
+
+    fn first(&self) -> u16
+        ensures { λ r. ⌜ r ≡ now (self .entry) .races .«first_race» ⌝ }
+    {
+        self.races.first_race
+    }
+
+    fn home(&self, address: u8) -> Result<u8, Refusal>
+        ensures { λ r. ⌜ machine .images (state (now (self .entry) .protocol)) address r ⌝ }
+    {
+        self.protocol.image(address)
+    }
+
+    fn open_from(&self, place: u8) -> Option<u8>
+        ensures { λ r. ⌜ machine .opens (state (now (self .entry) .protocol)) place r ⌝ }
+    {
+        self.protocol.next_open(place)
+    }
+
+    /// Clears the protocol and the race table.
+    fn clear(&mut self)
+        ensures fresh { λ _. ⌜ machine .fresh (state (now (self .exit) .protocol)) ⌝ }
+        ensures table { λ _. ⌜ now (self .exit) .races ≡ start ⌝ }
+    {
+        self.protocol.clear();
+        self.races = RaceTable::new();
+    }
+
     /// Sets a bench up over a protocol, in whatever state that is.
-    pub fn new(mut protocol: P) -> Bench<P>
+    pub fn new(protocol: P) -> Bench<P>
         ensures fresh { λ r. ⌜ machine .fresh (state (r .protocol)) ⌝ }
         ensures table { λ r. ⌜ r .races ≡ start ⌝ }
         ensures begins { λ r. ⌜ Watched machine (state (r .protocol)) (r .races) empty-log ⌝ }
     {
-        protocol.clear();
-        Bench {
+        let mut bench = Bench {
             protocol,
             races: RaceTable::new(),
-        }
+        };
+        bench.set_up();
+        bench
     }
 
     /// Sets the bench up again: the protocol is cleared, and a new study begins.
@@ -60,8 +94,7 @@ impl<P: Protocol> Bench<P> {
         ensures table { λ _. ⌜ now (self .exit) .races ≡ start ⌝ }
         ensures begins { λ _. ⌜ Watched machine (state (now (self .exit) .protocol)) (now (self .exit) .races) empty-log ⌝ }
     {
-        self.protocol.clear();
-        self.races = RaceTable::new();
+        self.clear();
     }
 
     /// Takes one step: the protocol's answer, with the race mark.
@@ -118,7 +151,7 @@ impl<P: Protocol> Bench<P> {
         ensures value { λ r. ⌜ r ≡ now (self .entry) .races .ended ⌝ }
         ensures counts { λ r. ⌜ ((log : Log) → Watched machine (state (now (self .entry) .protocol)) (now (self .entry) .races) log → r ≡ number (log .ended)) ⌝ }
     {
-        self.races.ended
+        self.count()
     }
 
     /// The number of the first race, or 0.
@@ -126,7 +159,7 @@ impl<P: Protocol> Bench<P> {
         ensures value { λ r. ⌜ r ≡ now (self .entry) .races .«first_race» ⌝ }
         ensures counts { λ r. ⌜ ((log : Log) → Watched machine (state (now (self .entry) .protocol)) (now (self .entry) .races) log → r ≡ first-race (log .ended)) ⌝ }
     {
-        self.races.first_race
+        self.first()
     }
 
     /// The byte at home of an address.
@@ -134,7 +167,7 @@ impl<P: Protocol> Bench<P> {
         ensures answers { λ r. ⌜ machine .images (state (now (self .entry) .protocol)) address r ⌝ }
         ensures means { λ r. ⌜ ((log : Log) → Watched machine (state (now (self .entry) .protocol)) (now (self .entry) .races) log → r ≡ image-of (machine .moment (state (now (self .entry) .protocol))) address) ⌝ }
     {
-        self.protocol.image(address)
+        self.home(address)
     }
 
     /// The first open place at or after a place.
@@ -142,6 +175,6 @@ impl<P: Protocol> Bench<P> {
         ensures answers { λ r. ⌜ machine .opens (state (now (self .entry) .protocol)) place r ⌝ }
         ensures means { λ r. ⌜ ((log : Log) → Watched machine (state (now (self .entry) .protocol)) (now (self .entry) .races) log → First-open (machine .moment (state (now (self .entry) .protocol))) place r) ⌝ }
     {
-        self.protocol.next_open(place)
+        self.open_from(place)
     }
 }

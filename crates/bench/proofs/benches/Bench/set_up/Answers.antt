@@ -3,4 +3,4 @@ use Rattle.races.specs.Study.{set-up}
 use Rattle.bench.proofs.benches.Bench.set_up.Needs as need
 
 pub returns : need.returns
-returns g c = record { fresh = c .clear .ensures; table = c .new-self .ensures; begins = record { study = set-up (c .clear .ensures); table = c .new-self .ensures } }
+returns g c = record { fresh = c .clear .ensures .fresh; table = c .clear .ensures .table; begins = record { study = set-up (c .clear .ensures .fresh); table = c .clear .ensures .table } }
