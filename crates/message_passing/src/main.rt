@@ -5,6 +5,8 @@ use bench::Bench;
 use bench::Request;
 use mesi::Mesi;
 use mesi::MesiProtocol;
+use neat::Neat;
+use neat::NeatProtocol;
 use protocol::Protocol;
 use protocol::Step;
 use races::Outcome;
@@ -12,6 +14,8 @@ use report::ended_line;
 use report::step_line;
 use std::error::AnyError;
 use std::io::Write;
+use store_buffer::StoreBuffer;
+use store_buffer::StoreBufferProtocol;
 
 /// The address that the byte is passed at.
 const BOX: u8 = 10;
@@ -42,7 +46,7 @@ fn show<P: Protocol + Drop>(
     Ok(())
 }
 
-/// The study on a bus, where every call ends at once.
+/// The study where no call waits.
 fn on_the_bus() -> [Step; 5] {
     [
         Step::Store {
@@ -63,6 +67,87 @@ fn on_the_bus() -> [Step; 5] {
     ]
 }
 
+/// The study under Neat: each message is moved where it stands. Line 1 of core 0 has place 1, its Close place 8; core 1 has 10 and 17.
+fn by_messages() -> [Step; 16] {
+    [
+        Step::Store {
+            core: 0,
+            address: BOX,
+            byte: 0x41,
+        },
+        Step::Move { place: 1 },
+        Step::Move { place: 1 },
+        Step::Load {
+            core: 1,
+            address: BOX,
+        },
+        Step::Move { place: 10 },
+        Step::Move { place: 10 },
+        Step::Release { core: 0 },
+        Step::Move { place: 8 },
+        Step::Move { place: 1 },
+        Step::Move { place: 8 },
+        Step::Acquire { core: 1 },
+        Step::Move { place: 17 },
+        Step::Move { place: 17 },
+        Step::Load {
+            core: 1,
+            address: BOX,
+        },
+        Step::Move { place: 10 },
+        Step::Move { place: 10 },
+    ]
+}
+
+/// The study under buffered Neat: the store ends at once, and goes below when core 0 releases.
+fn through_the_buffer() -> [Step; 16] {
+    [
+        Step::Store {
+            core: 0,
+            address: BOX,
+            byte: 0x41,
+        },
+        Step::Load {
+            core: 1,
+            address: BOX,
+        },
+        Step::Move { place: 10 },
+        Step::Move { place: 10 },
+        Step::Release { core: 0 },
+        Step::Move { place: 1 },
+        Step::Move { place: 1 },
+        Step::Move { place: 8 },
+        Step::Move { place: 1 },
+        Step::Move { place: 8 },
+        Step::Acquire { core: 1 },
+        Step::Move { place: 17 },
+        Step::Move { place: 17 },
+        Step::Load {
+            core: 1,
+            address: BOX,
+        },
+        Step::Move { place: 10 },
+        Step::Move { place: 10 },
+    ]
+}
+
+fn show_all(rt: &LibcRuntime) -> Result<(), AnyError> {
+    show(rt, "bus MESI", Mesi::new(), &on_the_bus())?;
+    show(rt, "Neat", Neat::new(), &by_messages())?;
+    show(
+        rt,
+        "buffered MESI",
+        StoreBuffer::new(Mesi::new()),
+        &on_the_bus(),
+    )?;
+    show(
+        rt,
+        "buffered Neat",
+        StoreBuffer::new(Neat::new()),
+        &through_the_buffer(),
+    )
+}
+
 fn main(rt: LibcRuntime) -> Result<(), AnyError> {
-    rt.report(show(&rt, "bus MESI", Mesi::new(), &on_the_bus()))
+    rt.report(show_all(&rt))
 }

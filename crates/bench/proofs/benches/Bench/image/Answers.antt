@@ -4,7 +4,7 @@ use Rattle.bench.proofs.benches.Bench.image.Needs as need
 
 pub returns : need.returns
 returns g c =
-    record
-      { answers = c .home .ensures
-      ; means = λ log h. holds (g .P·Protocol .machine) (g .P·Protocol·met .keeps) _ _ log h .images (c .args .address) (c .home .result) (c .home .ensures)
-      }
+    record {
+      answers = c .home .ensures;
+      means = λ log h. holds (g .P·Protocol .machine) (g .P·Protocol·met .keeps) _ _ log h .images (c .args .address) (c .home .result) (c .home .ensures);
+    }

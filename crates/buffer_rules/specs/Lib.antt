@@ -1,0 +1,4 @@
+pub mod Buffered
+pub mod Entries
+pub mod Rules
+pub mod Scripts

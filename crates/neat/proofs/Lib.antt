@@ -1,0 +1,9 @@
+mod Arrays
+mod Bits
+mod Merging
+mod Parts
+mod Sending
+mod Settling
+mod Whole
+mod Steps
+mod Opening
