@@ -11,13 +11,13 @@ use Rattle.std.specs.declared.option.Option.{Option}
 use Rattle.std.specs.declared.option.Option.the-variants.{Some}
 use Rattle.protocol.specs.declared.steps.Step.{Step}
 use Rattle.protocol.specs.declared.steps.Step.the-variants.{Move}
-use Rattle.protocol.specs.Meaning.{Machine}
+use Rattle.protocol.specs.Meaning.{Machine, Meaning}
 use Rattle.races.specs.declared.outcomes.Outcome.{Outcome}
 use Rattle.races.specs.declared.table.RaceTable.{RaceTable}
-use Rattle.races.specs.Log.{Log, feed}
-use Rattle.races.specs.Table.{reply-of}
-use Rattle.races.specs.Study.{Watched, Takes}
-use Rattle.bench.specs.Chains.{Chain, nothing, then, logged, Any-step, First-place, Ran, Settled}
+use Rattle.races.specs.Study.{Takes}
+use Rattle.bench.proofs.Holding.{holds, holds-along, chain-carries}
+use Rattle.bench.proofs.Computing.{comes-to, settle-computed}
+use Rattle.bench.specs.Chains.{Chain, nothing, then, Any-step, First-place, Ran, Settled}
 
 module _ (M : Machine) (Chosen : M .State → Step → Type 0) where
   -- One step more.
@@ -29,11 +29,6 @@ module _ (M : Machine) (Chosen : M .State → Step → Type 0) where
   pub chain-length : {s t : M .State} {w v : RaceTable} {ks : List Step} {rs : List Outcome} → Chain M Chosen s w ks rs t v → length ks ≡ length rs
   chain-length nothing = refl
   chain-length (then c h l) = ap suc (chain-length l)
-
-  -- A chain carries every study on.
-  pub chain-carries : {s t : M .State} {w v : RaceTable} {ks : List Step} {rs : List Outcome} → Chain M Chosen s w ks rs t v → (log : Log) → Watched M s w log → Watched M t v (logged log ks rs)
-  chain-carries nothing log h = h
-  chain-carries (then {k = k} {r = r} c g l) log h = chain-carries l (feed log k (reply-of r)) (g .carries log h)
 
   -- A turn of a loop that writes the outcome of its step at its index: what was written so far is a chain, and the rest as it was.
   pub record So-far (s : M .State) (w : RaceTable) (ks : List Step) (out : List Outcome) (i : ℕ) (t : M .State) (v : RaceTable) (now-out : List Outcome) : Type 0 where
@@ -57,15 +52,17 @@ module _ (M : Machine) (Chosen : M .State → Step → Type 0) where
   far-written {new = new} i h = sym (take-append-drop i new) ∙ ap (λ (z : List Outcome). take i new ++ z) (h .rest)
 
 -- A run's loop has come to its end.
-pub run-done : (M : Machine) (s t : M .State) (w v : RaceTable) (ks : List Step) (out new : List Outcome) (i : ℕ) → So-far M (Any-step M) s w (take i ks) out i t v new → i ≡ length ks → length ks ≤ length out → Ran M s w ks out t v new
-run-done M s t w v ks out new i h e l =
+pub run-done : (M : Machine) (means : Meaning M) (s t : M .State) (w v : RaceTable) (ks : List Step) (out new : List Outcome) (i : ℕ) → So-far M (Any-step M) s w (take i ks) out i t v new → i ≡ length ks → length ks ≤ length out → Ran M s w ks out t v new
+run-done M means s t w v ks out new i h e l =
     let chain : Chain M (Any-step M) s w ks (take i new) t v = subst (λ (z : List Step). Chain M (Any-step M) s w z (take i new) t v) (take-all i ks (omega arith)) (h .chain) in
     record {
       rs = take i new;
       room = l;
       chain = chain;
       written = far-written M (Any-step M) i h ∙ ap (λ (n : ℕ). take i new ++ drop n out) e;
+      computed = comes-to M chain;
       carries = chain-carries M (Any-step M) chain;
+      holds = holds-along M means chain;
     }
 
 -- A settling so far: some steps, each a move of the first open place.
@@ -76,8 +73,8 @@ pub settle-more : (M : Machine) (s t u : M .State) (w v x : RaceTable) (out new 
 settle-more M s t u w v x out new i p r l h o g = (h .0 ++ Move p ∷ [], far-more M (First-place M) i l (h .1) (p, refl, o) g)
 
 -- A settling has come to its end: no place is open, or the outcomes are full.
-pub settle-done : (M : Machine) (s t : M .State) (w v : RaceTable) (out new : List Outcome) (i n : ℕ) (o : Option ℕ) (b : Bool) → Settling M s w out i t v new → n ≡ i → b ≡ isSome o → i ≤ length new → M .opens t 0 o → (b ≡ true → n ≡ length out) → Settled M s w out n b t v new
-settle-done M s t w v out new i n o b h e q l a f =
+pub settle-done : (M : Machine) (means : Meaning M) (s t : M .State) (w v : RaceTable) (out new : List Outcome) (i n : ℕ) (o : Option ℕ) (b : Bool) → Settling M s w out i t v new → n ≡ i → b ≡ isSome o → i ≤ length new → M .opens t 0 o → (b ≡ true → n ≡ length out) → Settled M s w out n b t v new
+settle-done M means s t w v out new i n o b h e q l a f =
     let c = h .1 .chain in
     record {
       ks = h .0;
@@ -90,7 +87,12 @@ settle-done M s t w v out new i n o b h e q l a f =
       asked = a;
       still-is = q;
       full = f;
+      computed = comes-to M c;
+      chosen = λ g find fs fi.
+          settle-computed M g fs find fi (length out) o c a (let k = length-take-le i new l in let m = h .1 .long in omega arith) (λ z. let k = length-take-le i new l in let y = f (q ∙ z) in omega arith);
       carries = chain-carries M (First-place M) c;
+      holds = holds-along M means c;
+      left = λ log w′. holds M means t v _ (chain-carries M (First-place M) c log w′) .opens 0 o a;
     }
 
 -- A turn of a run.

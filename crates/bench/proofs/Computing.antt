@@ -16,7 +16,7 @@ use Rattle.races.specs.declared.outcomes.Outcome.{Outcome}
 use Rattle.races.specs.declared.table.RaceTable.{RaceTable}
 use Rattle.races.specs.Table.{marked, reply-of}
 use Rattle.races.specs.Study.{Takes}
-use Rattle.bench.specs.Chains.{Chain, nothing, then, First-place}
+use Rattle.bench.specs.Chains.{Chain, nothing, then, First-place, Comes-to}
 use Rattle.bench.specs.Computed.{Follows, Finds, state-after, table-after, outcomes-of, at-open, settling}
 
 -- What a step leaves and answers.
@@ -61,3 +61,7 @@ module _ (M : Machine) (f : M .State → Step → Reply × M .State) (follows : 
         let rest : ks ≡ settling f next n t = settle-computed n o d a (omega arith) (λ e. let z = h e in omega arith) in
         (λ i. c .1 i ∷ (rest ∙ (λ j. settling f next n ((at ∙ (λ m. f s (c .1 m) .1)) j))) i)
         ∙ ap (λ (z : Option ℕ). at-open f next z (λ p. Move p ∷ settling f next n (f s (Move p) .1))) (finds s 0 (Some (c .0)) (c .2))
+
+-- A chain comes to what is computed, whatever function the protocol's answers are.
+pub comes-to : (M : Machine) {Chosen : M .State → Step → Type 0} {s t : M .State} {w v : RaceTable} {ks : List Step} {rs : List Outcome} → Chain M Chosen s w ks rs t v → Comes-to M s w ks rs t v
+comes-to M c f h = let x = chain-computed M f h c in (x .outcomes, x .state, x .table)

@@ -19,14 +19,13 @@ use Rattle.races.specs.declared.table.RaceTable.{RaceTable}
 use Rattle.races.specs.Log.{Log, empty-log, feed}
 use Rattle.races.specs.Table.{reply-of, mark-of, start}
 use Rattle.races.specs.Study.{Watched, Takes, ends-race}
-use Rattle.races.specs.Guarantee.{Coherent, Counted}
 use Rattle.bench.specs.declared.faults.Fault.{Fault}
 use Rattle.bench.specs.declared.requests.Request.{Request}
 use Rattle.bench.specs.declared.requests.Request.the-variants.{Step as One, Run, Settle, Image, NextOpen}
 use Rattle.bench.specs.declared.requests.Answer.{Answer}
 use Rattle.bench.specs.declared.requests.Answer.the-variants.{Stepped, Ran as Run-is, Settled as Settled-is, Imaged, Found}
 use Rattle.bench.specs.Faults.{few-outcomes}
-use Rattle.bench.specs.Chains.{Chain, nothing, then, Any-step, First-place, logged}
+use Rattle.bench.specs.Chains.{Chain, nothing, then, Any-step, First-place, logged, Holds, Holds-along}
 
 -- How many outcomes a request may want.
 abbrev pub room-of : Request → ℕ
@@ -68,27 +67,15 @@ abbrev pub log-after-all : {M : Machine} {s t : M .State} {w v : RaceTable} {qs 
 log-after-all log no-more = log
 log-after-all log (more h l) = log-after-all (log-after log h) l
 
--- What holds at one point of a study: the guarantee; the bench's two numbers are the log's; an image answers home, and a next open the
--- first open place.
-pub record Holds (M : Machine) (s : M .State) (w : RaceTable) (log : Log) : Type 0 where
-  pub coherent : Coherent (M .moment s) log
-  pub counted : Counted w log
-  pub images : (a : ℕ) (r : Result ℕ Refusal) → M .images s a r → r ≡ image-of (M .moment s) a
-  pub opens : (p : ℕ) (o : Option ℕ) → M .opens s p o → First-open (M .moment s) p o
-
--- It holds at each point of a chain of steps, and each mark is the race rule's.
-abbrev pub Holds-along : {M : Machine} {Chosen : M .State → Step → Type 0} {s t : M .State} {w v : RaceTable} {ks : List Step} {rs : List Outcome} → Log → Chain M Chosen s w ks rs t v → Type 0
-Holds-along {M} log (nothing {s} {w}) = Holds M s w log
-Holds-along {M} log (then {s} {t} {u} {w} {v} {x} {k} {r} c h l) = (Holds M s w log) × (mark-of r ≡ ends-race log (reply-of r)) × Holds-along (feed log k (reply-of r)) l
-
--- It holds before a request, after it and, in a run or a settling, at each point on the way.
+-- It holds before a request, after it and, in a run or a settling, at each point on the way. An image is home, and a next open place,
+-- also the one after a settling, is the first open one.
 abbrev pub Holds-during : {M : Machine} {s t : M .State} {w v : RaceTable} {q : Request} {a : Answer} {rs : List Outcome} → Log → Asks M s w q a rs t v → Type 0
 Holds-during {M} log (stepped {s} {t} {w} {v} {k} {r} h) = (Holds M s w log) × (mark-of r ≡ ends-race log (reply-of r)) × (Holds M t v (feed log k (reply-of r)))
 Holds-during log (ran l c) = Holds-along log c
 Holds-during {M} log (no-room {s} {w} l) = Holds M s w log
-Holds-during log (settled c l o f) = Holds-along log c
-Holds-during {M} log (imaged {s} {w} h) = Holds M s w log
-Holds-during {M} log (found {s} {w} h) = Holds M s w log
+Holds-during {M} log (settled {s} {t} {w} {v} {ks} {n} {rs} {o} c l h f) = (Holds-along log c) × (First-open (M .moment t) 0 o)
+Holds-during {M} log (imaged {s} {w} {a} {r} h) = (Holds M s w log) × (r ≡ image-of (M .moment s) a)
+Holds-during {M} log (found {s} {w} {p} {o} h) = (Holds M s w log) × (First-open (M .moment s) p o)
 
 abbrev pub Holds-throughout : {M : Machine} {s t : M .State} {w v : RaceTable} {qs : List Request} {said : List Answer} {rs : List Outcome} → Log → Asks-all M s w qs said rs t v → Type 0
 Holds-throughout {M} log (no-more {s} {w}) = Holds M s w log

@@ -15,10 +15,14 @@ use Rattle.races.specs.declared.outcomes.Outcome.{Outcome}
 use Rattle.races.specs.declared.outcomes.Outcome.the-variants.{Refused, Waits, Ended as Has-ended, Moved, Finished}
 use Rattle.races.specs.declared.table.RaceTable.{RaceTable}
 use Rattle.races.specs.Log.{Log, empty-log, feed}
-use Rattle.races.specs.Table.{reply-of, mark-of}
+use Rattle.races.specs.Table.{reply-of, mark-of, start}
 use Rattle.races.specs.Study.{Watched, Takes, ends-race}
 use Rattle.races.proofs.StudyLaw.{coherent}
-use Rattle.mesi.specs.Bus.{State, mesi-machine, load-answers}
+use Rattle.mesi.specs.Bus.{State, start as bus-start, mesi-machine, load-answers}
+use Rattle.bench.specs.Chains.{Chain, nothing, then, Any-step}
+use Rattle.bench.specs.Computed.{state-after, table-after}
+use Rattle.bench.proofs.Computing.{comes-to}
+use Rattle.known_studies.specs.Cases.{mesi-step, handover}
 
 -- An outcome is its reply and its mark.
 ended-is : (r : Outcome) (x : Ended) (race : Bool) → reply-of r ≡ At-once x → mark-of r ≡ race → r ≡ Has-ended x race
@@ -48,3 +52,10 @@ handed-over means {s₀} {s₁} {s₂} {s₃} {s₄} {w₀} {w₁} {w₂} {w₃}
     let g₄ = goes-on (Load 1 10) r₄ (At-once (Loaded 1 10 b)) l₃ h₄ e₄ g₃ in
     let byte : b ≡ 65 = coherent mesi-machine means (g₄ .study) .loads [] (Acquired 1 ∷ (Released 0 ∷ (Stored 0 10 65 ∷ []))) 1 10 b refl refl in
     ended-is r₄ (Loaded 1 10 65) false (e₄ ∙ ap (λ (z : ℕ). At-once (Loaded 1 10 z)) byte) (h₄ .mark-is l₃ g₃ ∙ ap (ends-race l₃) e₄)
+
+-- What the four calls leave, by the rules.
+pub handover-leaves : {s₀ s₁ s₂ s₃ s₄ : State} {w₀ w₁ w₂ w₃ w₄ : RaceTable} {r₁ r₂ r₃ r₄ : Outcome} → s₀ ≡ bus-start → w₀ ≡ start → Takes mesi-machine s₀ w₀ (Store 0 10 65) r₁ s₁ w₁ → Takes mesi-machine s₁ w₁ (Release 0) r₂ s₂ w₂ → Takes mesi-machine s₂ w₂ (Acquire 1) r₃ s₃ w₃ → Takes mesi-machine s₃ w₃ (Load 1 10) r₄ s₄ w₄ → (s₄ ≡ state-after mesi-step bus-start handover) × (w₄ ≡ table-after mesi-step bus-start start handover)
+handover-leaves {s₀} {s₁} {s₂} {s₃} {s₄} {w₀} {w₁} {w₂} {w₃} {w₄} e q h₁ h₂ h₃ h₄ =
+    let c : Chain mesi-machine (Any-step mesi-machine) s₀ w₀ handover _ s₄ w₄ = then tt h₁ (then tt h₂ (then tt h₃ (then tt h₄ nothing))) in
+    let x = comes-to mesi-machine c mesi-step (λ s k r t h. h) in
+    (x .1 ∙ ap (λ (z : State). state-after mesi-step z handover) e, x .2 ∙ (λ i. table-after mesi-step (e i) (q i) handover))

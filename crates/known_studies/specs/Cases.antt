@@ -17,9 +17,16 @@ use Rattle.bench.specs.Computed.{state-after}
 use Rattle.protocol.specs.declared.steps.Reply.{Reply}
 use Rattle.known_studies.specs.Shown.{Case, lines-of}
 
--- A study under bus MESI, from a clear on.
+-- Bus MESI, from a clear on.
+abbrev pub mesi-step : bus.State → Step → Reply × bus.State
+mesi-step = guarded bus.moment bus.act
+
 abbrev pub under-mesi : List Step → List ℕ
-under-mesi ks = lines-of (guarded bus.moment bus.act) bus.start empty-log ks
+under-mesi ks = lines-of mesi-step bus.start empty-log ks
+
+-- Core 0 hands a byte over to core 1.
+abbrev pub handover : List Step
+handover = Store 0 10 65 ∷ Release 0 ∷ Acquire 1 ∷ Load 1 10 ∷ []
 
 abbrev pub line : List ℕ → List ℕ
 line text = text ++ line-end
@@ -56,7 +63,7 @@ abbrev pub buffered-start : Pile bus.State
 buffered-start = record { below = bus.start; buffers = λ c. empty }
 
 abbrev pub buffered-mesi-step : Pile bus.State → Step → Reply × Pile bus.State
-buffered-mesi-step = buffer-step (guarded bus.moment bus.act)
+buffered-mesi-step = buffer-step mesi-step
 
 abbrev pub under-buffered-mesi : List Step → List ℕ
 under-buffered-mesi ks = lines-of buffered-mesi-step buffered-start empty-log ks

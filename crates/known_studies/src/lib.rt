@@ -3,7 +3,10 @@
 ghost use mathlib.Core.Path.{_≡_};
 ghost use mathlib.Core.Bool.{true};
 ghost use Rattle.known_studies.specs.Shown.{all-known};
-ghost use Rattle.known_studies.specs.Cases.{cases};
+ghost use Rattle.bench.specs.Computed.{state-after, table-after};
+ghost use Rattle.mesi.specs.Bus.{state-of, start};
+ghost use Rattle.races.specs.Table.{start as none-ended};
+ghost use Rattle.known_studies.specs.Cases.{cases, mesi-step, handover};
 ghost use Rattle.protocol.specs.declared.steps.Ended.the-variants.{Loaded};
 ghost use Rattle.races.specs.declared.outcomes.Outcome.the-variants.{Ended as Has-ended};
 ghost use mathlib.Core.Bool.{false};
@@ -23,7 +26,9 @@ pub fn studies_hold() -> bool
 /// Core 0 hands a byte over to core 1 under bus MESI. That core 1 loads that byte, without a race, is shown by the guarantee of every
 /// study, and not by the rules of MESI.
 pub fn hand_over(bench: &mut Bench<Mesi>) -> Outcome
-    ensures { λ r. ⌜ r ≡ Has-ended (Loaded 1 10 65) false ⌝ }
+    ensures answer { λ r. ⌜ r ≡ Has-ended (Loaded 1 10 65) false ⌝ }
+    ensures protocol { λ _. ⌜ state-of (now (bench .exit) .protocol) ≡ state-after mesi-step start handover ⌝ }
+    ensures races { λ _. ⌜ now (bench .exit) .races ≡ table-after mesi-step start none-ended handover ⌝ }
 {
     bench.set_up();
     let _ = bench.store(0, 10, 65);

@@ -14,8 +14,9 @@ use Rattle.races.specs.Log.{Log, empty-log}
 use Rattle.races.specs.Table.{start}
 use Rattle.races.specs.Study.{Study, set-up, Watched, Takes}
 use Rattle.bench.specs.Chains.{Chain, nothing, Any-step, logged}
-use Rattle.bench.proofs.Chaining.{chain-more, chain-length, chain-carries}
-use Rattle.bench.proofs.Studying.{holds-along}
+use Rattle.bench.proofs.Chaining.{chain-more, chain-length}
+use Rattle.bench.proofs.Holding.{holds-along, chain-carries}
+use Rattle.bench.proofs.Computing.{comes-to}
 use Rattle.report.proofs.Pieces.{line-length}
 use Rattle.report.specs.Lines.{step-line, ended-line}
 use mathlib.Core.Bool.{Bool, cond}
@@ -170,6 +171,7 @@ page-done M means s t w v ks heading counts out o₁ o₂ o₃ o₄ o₅ a₁ a�
       rs = steps .rs;
       begins = fresh;
       chain = chain;
+      computed = comes-to M chain;
       holds = holds-along M means chain empty-log (subst (λ (z : RaceTable). Watched M s z empty-log) table begun);
       written =
           f₅ .written

@@ -17,8 +17,7 @@ use Rattle.bench.specs.declared.faults.Fault.{Fault}
 use Rattle.bench.specs.declared.faults.Cause.the-variants.{OutputTooShort}
 use Rattle.bench.specs.declared.faults.Layer.the-variants.{Caller}
 use Rattle.bench.specs.Faults.{cause-number, layer-number}
-use Rattle.bench.specs.Chains.{Chain, Any-step, logged}
-use Rattle.bench.specs.Requests.{Holds-along}
+use Rattle.bench.specs.Chains.{Chain, Any-step, Comes-to, Holds-along}
 use Rattle.report.specs.Digits.{byte-digits, decimal-digits}
 use Rattle.report.specs.Lines.{step-line, ended-line, line-end}
 
@@ -69,6 +68,7 @@ pub record Printed (M : Machine) (heading : List ℕ) (ks : List Step) (out new 
   pub rs : List Outcome
   pub begins : M .fresh first
   pub chain : Chain M (Any-step M) first start ks rs last table
+  pub computed : Comes-to M first start ks rs last table
   pub holds : Holds-along empty-log chain
   pub written : new ≡ report-of heading ks rs table (M .moment last .view .home) ++ drop n out
   pub counted : n ≡ report-length (length ks)

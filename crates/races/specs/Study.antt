@@ -13,6 +13,7 @@ use Rattle.races.specs.declared.table.RaceTable.{RaceTable}
 use Rattle.races.specs.Log.{Log, empty-log, feed}
 use Rattle.races.specs.Races.{races}
 use Rattle.races.specs.Table.{table-of, marked, reply-of, mark-of}
+use Rattle.races.specs.Guarantee.{Coherent, Counted}
 
 -- Set-up clears the protocol, and the log is empty. Each step with its answer takes the protocol on and is fed to the log.
 pub data Study (M : Machine) : M .State → Log → Type 0 where
@@ -33,8 +34,8 @@ ends-race log Moved = false
 ends-race log (Finished x) = races x (log .ended)
 
 -- One step of a bench, from the protocol's state s and the table w to t and v, with the outcome r: the answer is the protocol's, with
--- only the mark added; and every study that led here is carried on by it, with a mark exactly if the call that ended races, and
--- with nothing changed where the step is refused.
+-- only the mark added; and every study that led here is carried on by it, with a mark exactly if the call that ended races, with
+-- nothing changed where the step is refused, and with the guarantee and the log's two numbers after it.
 pub record Takes (M : Machine) (s : M .State) (w : RaceTable) (k : Step) (r : Outcome) (t : M .State) (v : RaceTable) : Type 0 where
   pub fits : Fit k
   pub answers : M .steps s k (reply-of r) t
@@ -42,3 +43,5 @@ pub record Takes (M : Machine) (s : M .State) (w : RaceTable) (k : Step) (r : Ou
   pub carries : (log : Log) → Watched M s w log → Watched M t v (feed log k (reply-of r))
   pub mark-is : (log : Log) → Watched M s w log → mark-of r ≡ ends-race log (reply-of r)
   pub unchanged : (log : Log) → Watched M s w log → (e : Refusal) → reply-of r ≡ Refused e → (t ≡ s) × (v ≡ w)
+  pub coherent : (log : Log) → Watched M s w log → Coherent (M .moment t) (feed log k (reply-of r))
+  pub counted : (log : Log) → Watched M s w log → Counted v (feed log k (reply-of r))

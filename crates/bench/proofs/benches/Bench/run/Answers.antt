@@ -15,6 +15,6 @@ loop-index-again g c =
 pub returns : need.returns
 returns g c =
     record {
-      made = run-done (g .P·Protocol .machine) _ _ _ _ (c .args .steps .now) (c .args .outcomes .now) (c .loop-index .outcomes) (c .loop-index .index) (c .loop-index .inv) (omega arith) (omega arith);
+      made = run-done (g .P·Protocol .machine) (g .P·Protocol·met .keeps) _ _ _ _ (c .args .steps .now) (c .args .outcomes .now) (c .loop-index .outcomes) (c .loop-index .index) (c .loop-index .inv) (omega arith) (omega arith);
       untouched = λ e. absurd (true≢false e);
     }

@@ -13,7 +13,7 @@ loop-index-holds g c = ([], far-none (g .P·Protocol .machine) (First-place (g .
 
 pub returns-in-rest : need.returns-in-rest
 returns-in-rest g c =
-    settle-done (g .P·Protocol .machine) _ _ _ _ (c .args .outcomes .now) (c .loop-index .outcomes) (c .loop-index .index) _ None _ (c .loop-index .inv) refl refl (omega arith) (c .in-rest .ensures tt .answers) (λ e. absurd (false≢true e))
+    settle-done (g .P·Protocol .machine) (g .P·Protocol·met .keeps) _ _ _ _ (c .args .outcomes .now) (c .loop-index .outcomes) (c .loop-index .index) _ None _ (c .loop-index .inv) refl refl (omega arith) (c .in-rest .ensures tt .answers) (λ e. absurd (false≢true e))
 
 pub loop-index-again : need.loop-index-again
 loop-index-again g c =
@@ -21,4 +21,4 @@ loop-index-again g c =
 
 pub returns : need.returns
 returns g c =
-    settle-done (g .P·Protocol .machine) _ _ _ _ (c .args .outcomes .now) (c .loop-index .outcomes) (c .loop-index .index) _ (c .next-open-2 .result) (c .is-some .result) (c .loop-index .inv) (omega arith) (c .is-some .ensures) (omega arith) (c .next-open-2 .ensures .answers) (λ e. omega arith)
+    settle-done (g .P·Protocol .machine) (g .P·Protocol·met .keeps) _ _ _ _ (c .args .outcomes .now) (c .loop-index .outcomes) (c .loop-index .index) _ (c .next-open-2 .result) (c .is-some .result) (c .loop-index .inv) (omega arith) (c .is-some .ensures) (omega arith) (c .next-open-2 .ensures .answers) (λ e. omega arith)
