@@ -81,32 +81,32 @@ neat-store = record { found = under-neat stored-by-neat; known = stored-lines }
 -- Then core 0 releases, core 1 acquires and loads: 41, unmarked.
 abbrev pub neat-handover : Case
 neat-handover =
-    record
-      { found = under-neat (stored-by-neat ++ (Release 0 ∷ Move 8 ∷ Move 1 ∷ Move 8 ∷ Acquire 1 ∷ Move 17 ∷ Move 17 ∷ Load 1 10 ∷ Move 10 ∷ Move 10 ∷ []))
-      ; known =
+    record {
+      found = under-neat (stored-by-neat ++ (Release 0 ∷ Move 8 ∷ Move 1 ∷ Move 8 ∷ Acquire 1 ∷ Move 17 ∷ Move 17 ∷ Load 1 10 ∷ Move 10 ∷ Move 10 ∷ []));
+      known =
           stored-lines
           ++ (line (codes "W 0 P -- . 00") ++ (line (codes "M - - -- . 00") ++ (line (codes "M - - -- . 00") ++ (line (codes "M 0 P -- . 00")
           ++ (line (codes "W 1 A -- . 00") ++ (line (codes "M - - -- . 00") ++ (line (codes "M 1 A -- . 00")
-          ++ (line (codes "W 1 L -- . 00") ++ (line (codes "M - - -- . 00") ++ line (codes "M 1 L 41 . 00"))))))))))
-      }
+          ++ (line (codes "W 1 L -- . 00") ++ (line (codes "M - - -- . 00") ++ line (codes "M 1 L 41 . 00"))))))))));
+    }
 
 -- Without them: 00, marked.
 abbrev pub neat-race : Case
 neat-race =
-    record
-      { found = under-neat (stored-by-neat ++ (Load 1 10 ∷ Move 10 ∷ Move 10 ∷ []))
-      ; known = stored-lines ++ (line (codes "W 1 L -- . 00") ++ (line (codes "M - - -- . 00") ++ line (codes "M 1 L 00 ! 00")))
-      }
+    record {
+      found = under-neat (stored-by-neat ++ (Load 1 10 ∷ Move 10 ∷ Move 10 ∷ []));
+      known = stored-lines ++ (line (codes "W 1 L -- . 00") ++ (line (codes "M - - -- . 00") ++ line (codes "M 1 L 00 ! 00")));
+    }
 
 -- An evict of the dirty line and a load of it: four moves of place 1, then 41.
 abbrev pub neat-evict : Case
 neat-evict =
-    record
-      { found = under-neat (stored-by-neat ++ (Evict 0 1 ∷ Load 0 10 ∷ Move 1 ∷ Move 1 ∷ Move 1 ∷ Move 1 ∷ []))
-      ; known =
+    record {
+      found = under-neat (stored-by-neat ++ (Evict 0 1 ∷ Load 0 10 ∷ Move 1 ∷ Move 1 ∷ Move 1 ∷ Move 1 ∷ []));
+      known =
           stored-lines
-          ++ (line (codes "E 0 X -- . 00") ++ (line (codes "W 0 L -- . 00") ++ (line (codes "M - - -- . 00") ++ (line (codes "M - - -- . 00") ++ (line (codes "M - - -- . 00") ++ line (codes "M 0 L 41 . 00"))))))
-      }
+          ++ (line (codes "E 0 X -- . 00") ++ (line (codes "W 0 L -- . 00") ++ (line (codes "M - - -- . 00") ++ (line (codes "M - - -- . 00") ++ (line (codes "M - - -- . 00") ++ line (codes "M 0 L 41 . 00"))))));
+    }
 
 -- A release with nothing dirty: place 8 twice.
 abbrev pub neat-empty-release : Case
@@ -119,18 +119,18 @@ buffered-store = Store 0 10 65 ∷ Load 1 10 ∷ Load 0 10 ∷ Release 0 ∷ []
 
 abbrev pub buffered-lines : Case
 buffered-lines =
-    record
-      { found = under-buffered-mesi buffered-store
-      ; known = line (codes "E 0 S 41 . 00") ++ (line (codes "E 1 L 00 ! 00") ++ (line (codes "E 0 L 41 . 00") ++ line (codes "E 0 P -- . 00")))
-      }
+    record {
+      found = under-buffered-mesi buffered-store;
+      known = line (codes "E 0 S 41 . 00") ++ (line (codes "E 1 L 00 ! 00") ++ (line (codes "E 0 L 41 . 00") ++ line (codes "E 0 P -- . 00")));
+    }
 
 -- After the release the image has 41.
 abbrev pub buffered-image : Case
 buffered-image =
-    record
-      { found = bus.home-byte (state-after buffered-mesi-step buffered-start (Store 0 10 65 ∷ []) .below) 10 ∷ bus.home-byte (state-after buffered-mesi-step buffered-start buffered-store .below) 10 ∷ []
-      ; known = 0 ∷ 65 ∷ []
-      }
+    record {
+      found = bus.home-byte (state-after buffered-mesi-step buffered-start (Store 0 10 65 ∷ []) .below) 10 ∷ bus.home-byte (state-after buffered-mesi-step buffered-start buffered-store .below) 10 ∷ [];
+      known = 0 ∷ 65 ∷ [];
+    }
 
 -- Core 0 stores to the first address of each line, and then releases.
 abbrev pub eight-dirty-lines : List Step
@@ -141,10 +141,10 @@ eight-dirty-lines =
 -- Eight dirty lines and a release: due is 18. A buffer over Neat: reach is 95.
 abbrev pub due-and-reach : Case
 due-and-reach =
-    record
-      { found = neat-reading.moment (state-after neat-step neat-state.start eight-dirty-lines) .due ∷ moment-over (neat-reading.moment neat-state.start) (λ c. empty) .reach ∷ []
-      ; known = 18 ∷ 95 ∷ []
-      }
+    record {
+      found = neat-reading.moment (state-after neat-step neat-state.start eight-dirty-lines) .due ∷ moment-over (neat-reading.moment neat-state.start) (λ c. empty) .reach ∷ [];
+      known = 18 ∷ 95 ∷ [];
+    }
 
 abbrev pub cases : List Case
 cases =

@@ -51,6 +51,8 @@ mod tests {
     use bench::LayerPartialEq;
     use mesi::Mesi;
     use mesi::MesiProtocol;
+    use neat::Neat;
+    use neat::NeatProtocol;
     use protocol::EndedDebug;
     use protocol::EndedPartialEq;
     use protocol::Protocol;
@@ -63,6 +65,8 @@ mod tests {
     use races::OutcomePartialEq;
     use report::step_line;
     use std::test::*;
+    use store_buffer::StoreBuffer;
+    use store_buffer::StoreBufferProtocol;
 
     // One step of a study, and the line that it must print.
     #[derive(Clone, Copy)]
@@ -192,5 +196,167 @@ mod tests {
             *b"E 1 L 41 ! 00\n",
         )?;
         check_eq(bench.first_race(), 65_535)
+    }
+
+    // The store, release, acquire and load of the known handover, and the racing load before it.
+    #[test]
+    fn neat_passes_a_byte() -> Result<(), Fail> {
+        let study = [
+            Shown {
+                step: Step::Store {
+                    core: 0,
+                    address: 10,
+                    byte: 0x41,
+                },
+                line: *b"W 0 S -- . 00\n",
+            },
+            Shown {
+                step: Step::Load {
+                    core: 0,
+                    address: 3,
+                },
+                line: *b"R 0 L -- . 03\n",
+            },
+            Shown {
+                step: Step::Move { place: 1 },
+                line: *b"M - - -- . 00\n",
+            },
+            Shown {
+                step: Step::Move { place: 1 },
+                line: *b"M 0 S 41 . 00\n",
+            },
+            Shown {
+                step: Step::Move { place: 1 },
+                line: *b"R - - -- . 04\n",
+            },
+            Shown {
+                step: Step::Release { core: 0 },
+                line: *b"W 0 P -- . 00\n",
+            },
+            Shown {
+                step: Step::Move { place: 8 },
+                line: *b"M - - -- . 00\n",
+            },
+            Shown {
+                step: Step::Move { place: 1 },
+                line: *b"M - - -- . 00\n",
+            },
+            Shown {
+                step: Step::Move { place: 8 },
+                line: *b"M 0 P -- . 00\n",
+            },
+            Shown {
+                step: Step::Acquire { core: 1 },
+                line: *b"W 1 A -- . 00\n",
+            },
+            Shown {
+                step: Step::Move { place: 17 },
+                line: *b"M - - -- . 00\n",
+            },
+            Shown {
+                step: Step::Move { place: 17 },
+                line: *b"M 1 A -- . 00\n",
+            },
+            Shown {
+                step: Step::Load {
+                    core: 1,
+                    address: 10,
+                },
+                line: *b"W 1 L -- . 00\n",
+            },
+            Shown {
+                step: Step::Move { place: 10 },
+                line: *b"M - - -- . 00\n",
+            },
+            Shown {
+                step: Step::Move { place: 10 },
+                line: *b"M 1 L 41 . 00\n",
+            },
+        ];
+        prints(Neat::new(), &study)
+    }
+
+    #[test]
+    fn neat_puts_and_fetches_again() -> Result<(), Fail> {
+        let study = [
+            Shown {
+                step: Step::Store {
+                    core: 0,
+                    address: 10,
+                    byte: 0x41,
+                },
+                line: *b"W 0 S -- . 00\n",
+            },
+            Shown {
+                step: Step::Move { place: 1 },
+                line: *b"M - - -- . 00\n",
+            },
+            Shown {
+                step: Step::Move { place: 1 },
+                line: *b"M 0 S 41 . 00\n",
+            },
+            Shown {
+                step: Step::Evict { core: 0, line: 1 },
+                line: *b"E 0 X -- . 00\n",
+            },
+            Shown {
+                step: Step::Load {
+                    core: 0,
+                    address: 10,
+                },
+                line: *b"W 0 L -- . 00\n",
+            },
+            Shown {
+                step: Step::Move { place: 1 },
+                line: *b"M - - -- . 00\n",
+            },
+            Shown {
+                step: Step::Move { place: 1 },
+                line: *b"M - - -- . 00\n",
+            },
+            Shown {
+                step: Step::Move { place: 1 },
+                line: *b"M - - -- . 00\n",
+            },
+            Shown {
+                step: Step::Move { place: 1 },
+                line: *b"M 0 L 41 . 00\n",
+            },
+        ];
+        prints(Neat::new(), &study)
+    }
+
+    // Four stores stay in the buffer; the fifth sends the oldest home.
+    #[test]
+    fn a_fifth_store_sends_the_oldest_below() -> Result<(), Fail> {
+        let mut bench = Bench::new(StoreBuffer::new(Mesi::new()));
+        for address in 0..4u8 {
+            let _ = bench.store(0, address, 0x41);
+        }
+        for address in 0..4u8 {
+            check_eq(bench.image(address), Ok(0))?;
+        }
+        let _ = bench.store(0, 4, 0x41);
+        check_eq(bench.image(0), Ok(0x41))?;
+        for address in 1..5u8 {
+            check_eq(bench.image(address), Ok(0))?;
+        }
+        Ok(())
+    }
+
+    // A drain that waits in its middle, through two buffers: settling ends it, and the image has both bytes.
+    #[test]
+    fn two_buffers_drain_through_neat() -> Result<(), Fail> {
+        let mut bench = Bench::new(StoreBuffer::new(StoreBuffer::new(Neat::new())));
+        let _ = bench.store(0, 10, 0x41);
+        let _ = bench.store(0, 20, 0x42);
+        check_eq(bench.release(0), Outcome::Waits)?;
+        let mut outcomes = [Outcome::Waits; 32];
+        let (moves, open) = bench.settle(&mut outcomes);
+        check_eq(open, false)?;
+        check_eq(moves, 8)?;
+        check_eq(bench.ended(), 3)?;
+        check_eq(bench.image(10), Ok(0x41))?;
+        check_eq(bench.image(20), Ok(0x42))
     }
 }
