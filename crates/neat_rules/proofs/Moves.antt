@@ -85,6 +85,12 @@ commit-closed fetching (V e) b h = h .allowed
 commit-closed closed (V e) b h = tt
 
 -- Sums that a move changes.
+one-more : (n m : ℕ) → n + 1 ≡ m → m ≡ 0 → ⊥
+one-more n m h g = omega arith
+
+one-received : (k r n m : ℕ) → n + 1 ≡ m → k ≡ r + m → k ≡ r + 1 + n
+one-received k r n m h g = omega arith
+
 falls-place : (p q o n h g k : ℕ) → p + o ≡ q + n → n + 1 ≤ o → h ≡ g → p + h + k + 1 ≤ q + g + k
 falls-place p q o n h g k e l f = omega arith
 
@@ -358,22 +364,10 @@ module _ (s : State) (c : ℕ) (i : Reachable s) (lt : c < 8) where
       fewer = less-sum (commits y) (commits x) (commit-in (x .slot l .place)) 0 (commits-with (x .slot) l (record { line = x .slot l .line; place = Empty }) in-line) (ap commit-in e) refl
 
       to-answer : (k : Closing) (r n m q : ℕ) → n + 1 ≡ m → Agrees k r m q → To-answer k (r + 1) n
-      to-answer Shut r n m q h g = absurd (empty n m h (g .1))
-        where
-          empty : (n m : ℕ) → n + 1 ≡ m → m ≡ 0 → ⊥
-          empty n m h g = omega arith
-      to-answer (Close k) r n m q h g = (moved k r n m h (g .0), g .1)
-        where
-          moved : (k r n m : ℕ) → n + 1 ≡ m → k ≡ r + m → k ≡ r + 1 + n
-          moved k r n m h g = omega arith
-      to-answer (Noted k) r n m q h g = (moved k r n m h (g .0), g .1)
-        where
-          moved : (k r n m : ℕ) → n + 1 ≡ m → k ≡ r + m → k ≡ r + 1 + n
-          moved k r n m h g = omega arith
-      to-answer PutAllAck r n m q h g = absurd (empty n m h (g .1))
-        where
-          empty : (n m : ℕ) → n + 1 ≡ m → m ≡ 0 → ⊥
-          empty n m h g = omega arith
+      to-answer Shut r n m q h g = absurd (one-more n m h (g .1))
+      to-answer (Close k) r n m q h g = (one-received k r n m h (g .0), g .1)
+      to-answer (Noted k) r n m q h g = (one-received k r n m h (g .0), g .1)
+      to-answer PutAllAck r n m q h g = absurd (one-more n m h (g .1))
 
       module _ (w : Activity) (by : Closes-by w) (is : x .activity ≡ w) where
         committed : Slot-ok closed (x .slot l .line) (Commit b)
