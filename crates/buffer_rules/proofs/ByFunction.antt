@@ -7,7 +7,7 @@ use Rattle.protocol.specs.declared.steps.Reply.{Reply}
 use Rattle.protocol.specs.Meaning.{Machine}
 use Rattle.buffer_rules.specs.Scripts.{Script, done, call, Runs, ends, calls, run}
 use Rattle.buffer_rules.specs.Rules.{Buffer, step-of}
-use Rattle.buffer_rules.specs.Buffered.{Pile, buffered, By-function, Again-by-function, buffer-step}
+use Rattle.buffer_rules.specs.Buffered.{Pile, Again-by-function}
 
 module _ {S : Type 0} (steps : S → Step → Reply → S → Type 0) (f : S → Step → Reply × S) (by-f : (s : S) (k : Step) (r : Reply) (t : S) → steps s k r t ↔ ((r, t) ≡ f s k)) where
   run-is : {X : Type 0} {w : Script X} {s : S} {x : X} {t : S} → Runs steps w s x t → (x, t) ≡ run f w s

@@ -1,5 +1,5 @@
 -- Each core call of the buffer, where it is not refused, does what the meaning says, with at most five calls below.
-use mathlib.Core.Path.{_≡_, refl, sym, ap, subst, _∙_}
+use mathlib.Core.Path.{_≡_, refl, sym, ap, _∙_}
 use mathlib.Core.Bool.{Bool, true, false, cond}
 use mathlib.Core.List.{List, [], _∷_}
 use Prim.Native.Nat.{ℕ, _+_, _<_, _≤_}
@@ -22,11 +22,11 @@ use Rattle.buffer_rules.specs.Entries.{found, replaced, added}
 use Rattle.buffer_rules.specs.Rules.{Buffer, stops, straight, load, load-by, store, store-by, store-new, store-oldest, release}
 use Rattle.buffer_rules.specs.Buffered.{seen, seen-over}
 use Rattle.buffer_rules.proofs.Always.{Always, always-so}
-use Rattle.buffer_rules.proofs.Held.{Sound, found-replaced, found-replaced-other, sound-replaced, length-replaced, found-none, found-added, found-added-other, sound-added, length-added}
+use Rattle.buffer_rules.proofs.Held.{found-replaced, found-replaced-other, sound-replaced, length-replaced, found-none, found-added, found-added-other, sound-added, length-added}
 use Rattle.buffer_rules.proofs.Names.{load-straight, acquire-straight, release-straight, evict-straight}
 use Rattle.buffer_rules.proofs.Views.{same-drift, same-entries, entry-comes}
 use Rattle.buffer_rules.proofs.Waiting.{pass}
-use Rattle.buffer_rules.proofs.Work.{Idle, Left, Worked, Brings-above, ends-here, worked-within, straight-worked, oldest-worked, worked-then}
+use Rattle.buffer_rules.proofs.Work.{Idle, Worked, Brings-above, ends-here, worked-within, straight-worked, oldest-worked, worked-then}
 
 module _ (M : Machine) (mean : Meaning M) where
   -- P of a core's work, wherever it may end.

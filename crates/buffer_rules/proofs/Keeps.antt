@@ -1,33 +1,29 @@
 -- The store buffer over a protocol that keeps the meaning keeps the meaning.
-use mathlib.Core.Path.{_≡_, refl, sym, ap, ap₂, subst, _∙_}
-use mathlib.Core.Bool.{Bool, true, false, cond}
+use mathlib.Core.Path.{_≡_, refl, sym, ap, subst, _∙_}
+use mathlib.Core.Bool.{Bool, cond}
 use mathlib.Core.Logic.{_⊎_, inl, inr}
-use mathlib.Core.List.{List, []}
+use mathlib.Core.List.{List}
 use Prim.Native.Nat.{ℕ, _+_, _*_, _<_, _≤_}
 use native.Mathlib.Omega.{arith}
 use native.Mathlib.Nat.{mul-add, mul-le-mul-left}
-use lib.Dec.{ltb}
-use lib.ListN.{length}
 use Rattle.std.proofs.shelf.Tests.{cases-eq, lt-ltb}
 use Rattle.std.specs.declared.option.Option.{Option}
 use Rattle.std.specs.declared.option.Option.the-variants.{Some, None}
-use Rattle.std.specs.declared.result.Result.{Result}
 use Rattle.protocol.specs.declared.steps.Step.{Step}
 use Rattle.protocol.specs.declared.steps.Step.the-variants.{Load, Store, Acquire, Release, Evict, Move}
 use Rattle.protocol.specs.declared.steps.Ended.{Ended}
 use Rattle.protocol.specs.declared.steps.Ended.the-variants.{Loaded, Stored, Acquired, Released, Evicted}
 use Rattle.protocol.specs.declared.steps.Refusal.{Refusal}
-use Rattle.protocol.specs.declared.steps.Refusal.the-variants.{NoSuchCore, NoSuchAddress, PlaceNotOpen}
 use Rattle.protocol.specs.declared.steps.Reply.{Reply}
 use Rattle.protocol.specs.declared.steps.Reply.the-variants.{Refused, Waits, Ended as At-once, Moved, Finished}
 use Rattle.protocol.specs.Moment.{Moment}
 use Rattle.protocol.specs.Steps.{call-of, core-of, caller, Fit}
-use Rattle.protocol.specs.Meaning.{Machine, Meaning, Reached, cleared, stepped, Possible, Called, Delivered, Accepted, Cleared, Bytes, First-open, Finishes, busy, refused-in}
+use Rattle.protocol.specs.Meaning.{Machine, Meaning, Reached, cleared, stepped, Possible, Called, Delivered, Accepted, Cleared, Bytes, First-open, Finishes, refused-in}
 use Rattle.buffer_rules.specs.declared.entries.Entry.{Entry}
 use Rattle.buffer_rules.specs.Entries.{found}
-use Rattle.buffer_rules.specs.Scripts.{Script, Runs}
+use Rattle.buffer_rules.specs.Scripts.{Script}
 use Rattle.buffer_rules.specs.Rules.{Buffer, Work, put, of-core, unless, turned-down, after-move, core-call, step-of, ended-below, load, store, release, straight}
-use Rattle.buffer_rules.specs.Buffered.{Pile, empty, seen, seen-over, moment-over, calls-left, total, buffered}
+use Rattle.buffer_rules.specs.Buffered.{Pile, seen, moment-over, calls-left, total, buffered}
 use Rattle.buffer_rules.proofs.Always.{Always, always-runs, always-after, always-so}
 use Rattle.buffer_rules.proofs.Held.{Sound, none-some, found-byte}
 use Rattle.buffer_rules.proofs.Sums.{total-changed}

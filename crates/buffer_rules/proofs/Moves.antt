@@ -1,5 +1,5 @@
 -- A waiting call goes on in the move that ends its call below.
-use mathlib.Core.Path.{_≡_, refl, sym, ap, subst, _∙_}
+use mathlib.Core.Path.{_≡_, refl, sym, subst, _∙_}
 use mathlib.Core.List.{List, [], _∷_}
 use Prim.Native.Nat.{ℕ, _+_, _*_, _<_, _≤_}
 use native.Mathlib.Omega.{arith}
@@ -13,19 +13,19 @@ use Rattle.protocol.specs.declared.steps.Ended.{Ended}
 use Rattle.protocol.specs.declared.steps.Ended.the-variants.{Stored}
 use Rattle.protocol.specs.declared.steps.Reply.{Reply}
 use Rattle.protocol.specs.declared.steps.Reply.the-variants.{Refused, Waits, Ended as At-once, Moved, Finished}
-use Rattle.protocol.specs.Steps.{call-of, core-of}
-use Rattle.protocol.specs.Meaning.{Machine, Meaning, Reached, Brings, Finishes}
+use Rattle.protocol.specs.Steps.{call-of}
+use Rattle.protocol.specs.Meaning.{Machine, Meaning, Reached, Brings}
 use Rattle.buffer_rules.specs.declared.entries.Entry.{Entry}
-use Rattle.buffer_rules.specs.Entries.{found, added, rest}
-use Rattle.buffer_rules.specs.Rules.{Buffer, moved, in-move, release, release-on, goes-on, ended-below}
+use Rattle.buffer_rules.specs.Entries.{added, rest}
+use Rattle.buffer_rules.specs.Rules.{Buffer, moved, in-move, release, release-on, goes-on}
 use Rattle.buffer_rules.specs.Buffered.{calls-left, left-of}
 use Rattle.buffer_rules.proofs.Always.{Always, always-so, always-after}
 use Rattle.buffer_rules.proofs.Held.{Sound, found-none}
 use Rattle.buffer_rules.proofs.Names.{stored-is, load-straight, acquire-straight, release-straight}
 use Rattle.buffer_rules.proofs.Views.{Straight, straight-brings}
-use Rattle.buffer_rules.proofs.Waiting.{Core-sound, Fine, call-below}
+use Rattle.buffer_rules.proofs.Waiting.{Core-sound}
 use Rattle.buffer_rules.proofs.Work.{Worked, Outcome, Drifts-above, Brings-above, drifts-then, brings-then, leaving, Idle}
-use Rattle.buffer_rules.proofs.Calls.{Works, added-worked, release-worked}
+use Rattle.buffer_rules.proofs.Calls.{added-worked, release-worked}
 
 module _ (M : Machine) (mean : Meaning M) where
   -- How a move came out that let the call k of core c go on, by its reply.

@@ -17,7 +17,7 @@ use Rattle.protocol.specs.Steps.{caller, core-of}
 use Rattle.buffer_rules.specs.declared.entries.Entry.{Entry}
 use Rattle.buffer_rules.specs.Entries.{found, replaced}
 use Rattle.buffer_rules.specs.Scripts.{Script, done, call, after, Runs, ends, calls}
-use Rattle.buffer_rules.specs.Rules.{Buffer, Work, waiting, stops, straight, once-ended, store-oldest, load, load-by, store, store-by, store-new, release, moved, in-move, release-on, goes-on, put, of-core, unless, turned-down, core-call, after-move, ended-below}
+use Rattle.buffer_rules.specs.Rules.{Buffer, Work, waiting, straight, once-ended, store-oldest, load, load-by, store, store-by, store-new, release, moved, in-move, release-on, goes-on, put, of-core, unless, turned-down, core-call, after-move, ended-below}
 
 -- The reply is no ended call.
 abbrev pub Not-ended : Reply → Type 0

@@ -4,20 +4,18 @@ use mathlib.Core.Bool.{Bool, true, false, cond}
 use mathlib.Core.Logic.{_⊎_, inl, inr}
 use mathlib.Core.List.{List, [], _∷_}
 use Prim.Native.Nat.{ℕ, _<_}
-use native.Mathlib.Omega.{arith}
-use lib.Dec.{eqb}
 use Rattle.std.proofs.shelf.Tests.{cases-eq, eq-eqb, ne-eqb, both-ways}
 use Rattle.std.specs.declared.option.Option.{Option}
 use Rattle.std.specs.declared.option.Option.the-variants.{Some, None}
 use Rattle.protocol.specs.declared.steps.Ended.{Ended}
 use Rattle.protocol.specs.declared.steps.Ended.the-variants.{Loaded, Stored, Acquired, Released, Evicted}
-use Rattle.protocol.specs.Moment.{View, Drift, Drifts, stay, drift, Store-lands, Nobody-owes, Owed, Elsewhere}
+use Rattle.protocol.specs.Moment.{View, Drift, Drifts, stay, drift, Store-lands, Nobody-owes, Owed}
 use Rattle.protocol.specs.Meaning.{Brings}
 use Rattle.buffer_rules.specs.declared.entries.Entry.{Entry}
 use Rattle.buffer_rules.specs.Entries.{found}
 use Rattle.buffer_rules.specs.Rules.{put}
 use Rattle.buffer_rules.specs.Buffered.{seen, owed, seen-over}
-use Rattle.buffer_rules.proofs.Held.{Sound, none-some, found-here, found-past}
+use Rattle.buffer_rules.proofs.Held.{Sound, found-here, found-past}
 
 pub put-here : {X : Type 0} (f : ℕ → X) (c : ℕ) (x : X) → put f c x c ≡ x
 put-here f c x = ap (λ (t : Bool). cond t x (f c)) (eq-eqb c c refl)

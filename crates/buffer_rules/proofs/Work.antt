@@ -1,34 +1,29 @@
 -- What a core's work over a protocol that keeps the meaning does: call by call below, and so above.
-use mathlib.Core.Path.{_≡_, refl, sym, ap, ap₂, subst, _∙_}
-use mathlib.Core.Bool.{Bool, true, false, cond}
-use mathlib.Core.List.{List, [], _∷_}
+use mathlib.Core.Path.{_≡_, refl, sym, ap, subst, _∙_}
+use mathlib.Core.List.{List, _∷_}
 use Prim.Native.Nat.{ℕ, _+_, _*_, _<_, _≤_}
 use native.Mathlib.Omega.{arith}
 use native.Mathlib.Nat.{mul-add, mul-le-mul-left}
-use lib.Dec.{ltb}
 use lib.ListN.{length}
-use Rattle.std.proofs.shelf.Tests.{ltb-true, ltb-false}
-use Rattle.std.specs.declared.option.Option.{Option}
 use Rattle.std.specs.declared.option.Option.the-variants.{Some, None}
 use Rattle.protocol.specs.declared.steps.Step.{Step}
-use Rattle.protocol.specs.declared.steps.Step.the-variants.{Load, Store, Acquire, Release, Evict, Move}
+use Rattle.protocol.specs.declared.steps.Step.the-variants.{Store}
 use Rattle.protocol.specs.declared.steps.Ended.{Ended}
-use Rattle.protocol.specs.declared.steps.Ended.the-variants.{Loaded, Stored, Acquired, Released, Evicted}
+use Rattle.protocol.specs.declared.steps.Ended.the-variants.{Stored}
 use Rattle.protocol.specs.declared.steps.Refusal.the-variants.{NoSuchCore, NoSuchAddress}
 use Rattle.protocol.specs.declared.steps.Reply.{Reply}
 use Rattle.protocol.specs.declared.steps.Reply.the-variants.{Refused, Waits, Ended as At-once, Moved, Finished}
-use Rattle.protocol.specs.Moment.{View, Moment, Drifts, stay, drift}
+use Rattle.protocol.specs.Moment.{Moment, Drifts, drift}
 use Rattle.protocol.specs.Steps.{call-of, Fit, caller}
 use Rattle.protocol.specs.Meaning.{Machine, Meaning, Reached, stepped, Possible, Brings, Called, Can-wait, busy, refused-in}
 use Rattle.buffer_rules.specs.declared.entries.Entry.{Entry}
-use Rattle.buffer_rules.specs.Entries.{found, replaced, added}
-use Rattle.buffer_rules.specs.Rules.{Buffer, Work, waiting, stops, straight, store-oldest, once-ended, load, load-by, store, store-by, store-new, release, put}
-use Rattle.buffer_rules.specs.Buffered.{seen, seen-over, calls-left}
-use Rattle.buffer_rules.proofs.Always.{Always, always-so}
-use Rattle.buffer_rules.proofs.Held.{Sound, found-replaced, found-replaced-other, sound-replaced, length-replaced, found-added, found-added-other, sound-added, length-added}
+use Rattle.buffer_rules.specs.Rules.{Buffer, Work, waiting, straight, store-oldest, once-ended, put}
+use Rattle.buffer_rules.specs.Buffered.{seen-over, calls-left}
+use Rattle.buffer_rules.proofs.Always.{Always}
+use Rattle.buffer_rules.proofs.Held.{Sound}
 use Rattle.buffer_rules.proofs.Names.{stored-is}
-use Rattle.buffer_rules.proofs.Views.{Around, Straight, put-here, put-other, drifts-on, over-drifts, same-drift, oldest-leaves, entry-comes, brings-after, straight-drifts, straight-brings}
-use Rattle.buffer_rules.proofs.Waiting.{Core-sound, Fine, call-below, oldest-or, pass}
+use Rattle.buffer_rules.proofs.Views.{Around, Straight, put-here, put-other, drifts-on, over-drifts, same-drift, oldest-leaves, brings-after, straight-drifts, straight-brings}
+use Rattle.buffer_rules.proofs.Waiting.{Core-sound, Fine, call-below, pass}
 
 module _ (M : Machine) (mean : Meaning M) where
   abbrev m : M .State → Moment

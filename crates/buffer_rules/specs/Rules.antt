@@ -1,5 +1,5 @@
 -- The rules of the store buffer: what each call does, by the calls that it makes below.
-use mathlib.Core.Bool.{Bool, true, cond}
+use mathlib.Core.Bool.{true, cond}
 use mathlib.Core.List.{List, [], _∷_}
 use Prim.Native.Nat.{ℕ}
 use lib.Dec.{eqb, ltb}
@@ -9,7 +9,7 @@ use Rattle.std.specs.declared.option.Option.the-variants.{Some, None}
 use Rattle.protocol.specs.declared.steps.Step.{Step}
 use Rattle.protocol.specs.declared.steps.Step.the-variants.{Load, Store, Acquire, Release, Evict, Move}
 use Rattle.protocol.specs.declared.steps.Ended.{Ended}
-use Rattle.protocol.specs.declared.steps.Ended.the-variants.{Loaded, Stored, Acquired, Released, Evicted}
+use Rattle.protocol.specs.declared.steps.Ended.the-variants.{Loaded, Stored}
 use Rattle.protocol.specs.declared.steps.Refusal.{Refusal}
 use Rattle.protocol.specs.declared.steps.Reply.{Reply}
 use Rattle.protocol.specs.declared.steps.Reply.the-variants.{Refused, Waits, Ended as At-once, Moved, Finished}

@@ -1,6 +1,4 @@
 -- Calls below, one after the other, each chosen by the replies before it.
-use mathlib.Core.Path.{_≡_}
-use Prim.Native.Nat.{ℕ}
 use Rattle.protocol.specs.declared.steps.Step.{Step}
 use Rattle.protocol.specs.declared.steps.Reply.{Reply}
 

@@ -11,7 +11,6 @@ use Rattle.study_run.specs.Reports.{file-comes-to}
 use Rattle.kuvormagy.specs.declared.Text.{Text}
 use Rattle.kuvormagy.specs.declared.Text.the-variants.{Report, FaultLine, OutOfMemory}
 
-
 -- What is to be printed: the start of the buffer, or a fault's line.
 abbrev pub Says : List ℕ → List ℕ → Text → List ℕ → Type 0
 Says file out (Report n) new = (Ok n, new) ≡ file-comes-to file out

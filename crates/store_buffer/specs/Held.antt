@@ -40,12 +40,12 @@ abbrev pub buffer-of : CoreBuffer → Buffer
 buffer-of b = record { entries = entries-of (b .queue); pending = b .pending }
 
 -- A buffer with no entry and no call to wait for.
-abbrev pub bare : CoreBuffer
-bare = record { queue = Empty; pending = None }
+abbrev pub bare-buffer : CoreBuffer
+bare-buffer = record { queue = Empty; pending = None }
 
 -- The buffer of each core.
 abbrev pub buffers-of : List CoreBuffer → ℕ → Buffer
-buffers-of bs c = buffer-of (getD bs c bare)
+buffers-of bs c = buffer-of (getD bs c bare-buffer)
 
 -- The state: that below, and the buffer of each core.
 abbrev pub pile : {S : Type 0} → S → List CoreBuffer → Pile S

@@ -7,8 +7,7 @@ ghost use Rattle.protocol.specs.Steps.{core-of};
 ghost use Rattle.protocol.specs.declared.steps.Step.the-variants.{Load, Acquire, Evict};
 ghost use Rattle.buffer_rules.specs.Rules.{turned-down};
 ghost use Rattle.buffer_rules.specs.Buffered.{buffered, Again-by-function};
-ghost use Rattle.store_buffer.specs.Held.{bare, buffers-of, pile, admitted};
-use crate::queue::Queue;
+ghost use Rattle.store_buffer.specs.Held.{buffers-of, pile, admitted};
 use crate::work;
 use crate::work::CoreBuffer;
 use protocol::Address;
@@ -24,16 +23,6 @@ use protocol::Reply;
 pub struct StoreBuffer<P> {
     below: P,
     buffers: [CoreBuffer; 8],
-}
-
-/// A buffer with no entry and no call to wait for.
-fn bare_buffer() -> CoreBuffer
-    ensures { λ r. ⌜ r ≡ bare ⌝ }
-{
-    CoreBuffer {
-        queue: Queue::Empty,
-        pending: None,
-    }
 }
 
 /// The core, unless it waits.
@@ -96,7 +85,7 @@ impl<P: Protocol> StoreBuffer<P> {
         cleared.clear();
         StoreBuffer {
             below: cleared,
-            buffers: [bare_buffer(); 8],
+            buffers: [CoreBuffer::bare(); 8],
         }
     }
 }
@@ -108,7 +97,7 @@ pub impl<P: Protocol> Protocol for StoreBuffer<P> as StoreBufferProtocol {
 
     fn clear(&mut self) {
         self.below.clear();
-        self.buffers = [bare_buffer(); 8];
+        self.buffers = [CoreBuffer::bare(); 8];
     }
 
     fn load(&mut self, core: u8, address: u8) -> Reply {

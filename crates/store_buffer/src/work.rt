@@ -6,7 +6,7 @@ ghost use Rattle.protocol.specs.declared.steps.Step.the-variants.{Acquire, Evic
 ghost use Rattle.protocol.specs.declared.steps.Ended.the-variants.{Stored};
 ghost use Rattle.protocol.specs.declared.steps.Reply.the-variants.{Ended as At-once};
 ghost use Rattle.buffer_rules.specs.Rules.{waiting, straight, load as load-rule, store as store-rule, store-new as store-new-rule, release as release-rule, moved, release-on, goes-on, ended-below};
-ghost use Rattle.store_buffer.specs.Held.{entries-of, buffer-of, Does};
+ghost use Rattle.store_buffer.specs.Held.{entries-of, buffer-of, bare-buffer, Does};
 use crate::queue::Queue;
 use buffer_rules::Entry;
 use protocol::Ended;
@@ -22,6 +22,16 @@ pub struct CoreBuffer {
 }
 
 impl CoreBuffer {
+    /// No entry, and no call to wait for.
+    pub fn bare() -> CoreBuffer
+        ensures { λ r. ⌜ r ≡ bare-buffer ⌝ }
+    {
+        CoreBuffer {
+            queue: Queue::Empty,
+            pending: None,
+        }
+    }
+
     /// The call stops with that reply: the core waits for it exactly if it waits.
     fn stop(&mut self, call: Step, reply: Reply) -> Reply
         ensures answer { λ r. ⌜ r ≡ reply ⌝ }

@@ -1,12 +1,12 @@
 -- A file is accepted exactly if it is sound, and has exactly the fault of the first check that fails.
 use mathlib.Core.Path.{_≡_, refl, sym, ap, subst, _∙_}
-use mathlib.Core.Logic.{_⊎_, inl, inr, _↔_}
+use mathlib.Core.Logic.{_⊎_, inl, inr}
 use mathlib.Core.Bool.{Bool, true, false, cond}
 use mathlib.Core.List.{List, [], _∷_, _++_}
 use Prim.Native.Nat.{ℕ, zero, suc, _+_, _-_, _≤_, _<_}
 use native.Mathlib.Omega.{arith}
 use lib.Dec.{ltb}
-use lib.ListN.{length, take, drop, getD}
+use lib.ListN.{length, drop, getD}
 use Rattle.std.specs.declared.option.Option.{Option}
 use Rattle.std.specs.declared.option.Option.the-variants.{Some, None}
 use Rattle.std.specs.declared.result.Result.{Result}
@@ -20,18 +20,15 @@ use Rattle.bench.specs.declared.faults.Cause.the-variants.{ProtocolNotFirst, Un
 use Rattle.bench.specs.declared.faults.Fault.{Fault}
 use Rattle.study_file.specs.declared.codes.Code.{Code}
 use Rattle.study_file.specs.declared.codes.Code.the-variants.{Neat, Mesi, BufferedNeat, BufferedMesi}
-use Rattle.study_file.specs.declared.codes.Kind.{Kind}
 use Rattle.study_file.specs.declared.codes.Kind.the-variants.{Protocol}
-use Rattle.study_file.specs.declared.plans.Item.{Item}
-use Rattle.study_file.specs.declared.plans.Item.the-variants.{Code as Names, Step as Asks}
-use Rattle.study_file.specs.Codes.{code-number, code-named, every-code, kind-number, fields-of}
+use Rattle.study_file.specs.Codes.{code-number, code-named, every-code, kind-number}
 use Rattle.study_file.specs.Records.{Found, most-bytes, reader-fault, record-at, or-none, next-at}
-use Rattle.study_file.specs.Plans.{Asked, most-steps, plan-fault, as-step, as-code, size-of, step-in, code-in, with-step, then-step, steps-from, with-code, then-code, plan-of, read-file}
+use Rattle.study_file.specs.Plans.{Asked, most-steps, plan-fault, as-step, as-code, size-of, step-in, code-in, with-step, steps-from, with-code, then-code, plan-of, read-file}
 use Rattle.study_file.specs.Files.{record-of, kind-of, fields, step-record, code-record, file-of}
-use Rattle.study_file.specs.Laws.{Check, Protocol-first, Known-code, Room-for-step, every-check, kind-at, Passes, First-failed, bytes-before, steps-before, Sound-file, Faulty, more-bytes, no-record, bad-record, Exact}
-use Rattle.study_file.proofs.Soundness.{Sound, named-has, record-inv, record-reads}
+use Rattle.study_file.specs.Laws.{Check, Protocol-first, Known-code, Room-for-step, every-check, kind-at, Passes, First-failed, Sound-file, Faulty, more-bytes, no-record, bad-record, Exact}
+use Rattle.study_file.proofs.Soundness.{named-has, record-inv, record-reads}
 use Rattle.study_file.proofs.Reading.{next-more}
-use Rattle.study_file.proofs.Planning.{onward, steps-next, steps-step, before}
+use Rattle.study_file.proofs.Planning.{steps-next, steps-step, before}
 use Rattle.study_file.proofs.Items.{Which, names, asks, which, no-protocol, step-item, step-size, step-bytes}
 use Rattle.study_file.proofs.Filling.{step-fields}
 use Rattle.study_file.proofs.Judging.{check-fault, judge, sound-says, plan-fails, none-fails, same-check}
@@ -41,6 +38,7 @@ abbrev On : Asked → ℕ → ℕ → List ℕ → Step → Type 0
 On x zero p rest k = ⊥
 On x (suc n) p rest k = (rest ≡ step-record k ++ drop (length (step-record k)) rest) × (steps-from (suc n) p rest ≡ with-step k (steps-from n (p + length (step-record k)) (drop (length (step-record k)) rest))) × ((why : Check) → First-failed (Passes (Some x) rest) every-check why → ⊥)
 
+-- A check fails first, and the result is its fault.
 abbrev Fails : Option Asked → List ℕ → ℕ → {X : Type 0} → Result X Fault → Type 0
 Fails b rest p x = (why : Check) × (First-failed (Passes b rest) every-check why) × (x ≡ Err (check-fault why p))
 
@@ -91,6 +89,7 @@ module _ (x : Asked) (p : ℕ) (rest : List ℕ) (h : 0 < length rest) where
 abbrev Begins : List ℕ → Code → Type 0
 Begins file c = (file ≡ code-record c ++ drop 5 file) × (plan-of (next-at 0 file) file ≡ with-code c (steps-from most-steps 5 (drop 5 file))) × ((why : Check) → First-failed (Passes None file) every-check why → ⊥)
 
+-- A code is known by its number.
 pub code-is : (c : Code) → code-named (code-number c) ≡ Some c
 code-is Neat = refl
 code-is Mesi = refl

@@ -1,7 +1,7 @@
 -- A buffer that is filled record by record holds the file.
 use mathlib.Core.Path.{_≡_, refl, sym, ap, _∙_}
 use mathlib.Core.List.{List, [], _∷_, _++_}
-use Prim.Native.Nat.{ℕ, _+_, _-_, _*_, _≤_, _<_}
+use Prim.Native.Nat.{ℕ, _+_, _*_, _≤_, _<_}
 use native.Mathlib.Omega.{arith}
 use borrow.Rule.Slice.PartMut.{putMid}
 use lib.ListN.{length, take, drop, getD}
@@ -10,7 +10,7 @@ use Rattle.std.specs.declared.option.Option.{Option}
 use Rattle.std.specs.declared.option.Option.the-variants.{Some}
 use Rattle.std.specs.declared.result.Result.the-variants.{Ok}
 use Rattle.std.specs.shelf.Lists.{joined}
-use Rattle.std.proofs.shelf.Lists.{append-assoc, append-nil, length-append, length-take-le, length-drop, take-more, take-append-drop, take-all, take-at, drop-drop, drop-at, joined-more}
+use Rattle.std.proofs.shelf.Lists.{append-assoc, length-append, length-take-le, length-drop, take-more, take-append-drop, take-all, take-at, drop-drop, drop-at, joined-more}
 use Rattle.std.proofs.shelf.Tests.{cond-false, le-ltb}
 use Rattle.protocol.specs.declared.steps.Step.{Step}
 use Rattle.protocol.specs.declared.steps.Step.the-variants.{Load, Store, Acquire, Release, Evict, Move}
@@ -19,7 +19,7 @@ use Rattle.study_file.specs.declared.codes.Kind.{Kind}
 use Rattle.study_file.specs.declared.codes.Kind.the-variants.{Protocol}
 use Rattle.study_file.specs.Codes.{code-number, code-named, fields-of}
 use Rattle.study_file.specs.Plans.{most-steps}
-use Rattle.study_file.specs.Files.{bytes-of, record-of, kind-of, fields, step-record, code-record, file-of}
+use Rattle.study_file.specs.Files.{record-of, kind-of, fields, step-record, code-record, file-of}
 use Rattle.study_file.specs.Writer.{with-bytes, write-as, write-file}
 use Rattle.study_file.proofs.Soundness.{few-fields}
 

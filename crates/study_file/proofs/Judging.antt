@@ -3,7 +3,7 @@ use mathlib.Core.Path.{_≡_, refl, sym, ap, subst, _∙_}
 use mathlib.Core.Logic.{_⊎_, inl, inr}
 use mathlib.Core.Bool.{Bool, true, false, cond}
 use mathlib.Core.List.{List, [], _∷_, _++_}
-use Prim.Native.Nat.{ℕ, _+_, _-_, _*_, _/_, _%_, _≤_, _<_}
+use Prim.Native.Nat.{ℕ, _+_, _≤_, _<_}
 use native.Mathlib.Omega.{arith}
 use lib.Dec.{ltb, eqb}
 use lib.ListN.{length, take, drop, getD}
@@ -11,9 +11,9 @@ use Rattle.std.specs.declared.option.Option.{Option}
 use Rattle.std.specs.declared.option.Option.the-variants.{Some, None}
 use Rattle.std.specs.declared.result.Result.{Result}
 use Rattle.std.specs.declared.result.Result.the-variants.{Ok, Err}
-use Rattle.std.proofs.shelf.Lists.{length-take-le, length-append, getD-take}
-use Rattle.std.proofs.shelf.Tests.{eqb-false, ltb-true, ltb-false, cond-true, cond-false}
-use Rattle.bench.specs.declared.faults.Cause.the-variants.{CutShort, WrongLength, UnknownKind}
+use Rattle.std.proofs.shelf.Lists.{length-take-le, getD-take}
+use Rattle.std.proofs.shelf.Tests.{eqb-false, ltb-true, ltb-false}
+use Rattle.bench.specs.declared.faults.Cause.the-variants.{CutShort, WrongLength}
 use Rattle.bench.specs.declared.faults.Fault.{Fault}
 use Rattle.study_file.specs.declared.codes.Kind.{Kind}
 use Rattle.study_file.specs.Codes.{kind-number, kind-named, every-kind, fields-of}
@@ -21,7 +21,7 @@ use Rattle.study_file.specs.Records.{Found, reader-fault, two-bytes, by-kind, 
 use Rattle.study_file.specs.Plans.{Asked, size-of}
 use Rattle.study_file.specs.Files.{record-of}
 use Rattle.study_file.specs.Laws.{Check, Whole, Length-of-two, Known-kind, Length-of-kind, Protocol-first, Known-code, Room-for-step, every-check, cause-of, layer-of, length-at, kind-at, Passes, First-failed}
-use Rattle.study_file.proofs.Soundness.{Sound, named-has, kind-is, record-inv}
+use Rattle.study_file.proofs.Soundness.{Sound, named-has, kind-is}
 
 abbrev pub check-fault : Check → ℕ → Fault
 check-fault why p = record { cause = cause-of why; place = p; layer = layer-of why }

@@ -13,7 +13,7 @@ use Rattle.std.specs.declared.result.Result.the-variants.{Ok, Err}
 use Rattle.std.specs.Results.{ErrBy}
 use Rattle.std.proofs.shelf.Results.{err-from-errBy}
 use Rattle.std.proofs.shelf.Lists.{append-nil, append-assoc, length-append, length-drop, drop-drop}
-use Rattle.std.proofs.shelf.Tests.{cond-false, le-ltb, ltb-false}
+use Rattle.std.proofs.shelf.Tests.{cond-false, le-ltb}
 use Rattle.protocol.specs.declared.steps.Step.{Step}
 use Rattle.bench.specs.declared.faults.Cause.the-variants.{TooLong}
 use Rattle.bench.specs.declared.faults.Fault.{Fault}

@@ -1,19 +1,17 @@
 -- A record is sound exactly if it is the bytes of a kind and a body with that kind's fields.
-use mathlib.Core.Path.{_≡_, refl, sym, ap, subst, _∙_}
+use mathlib.Core.Path.{_≡_, refl, sym, ap, _∙_}
 use mathlib.Core.Bool.{Bool, true, false, cond}
 use mathlib.Core.List.{List, [], _∷_, _++_}
-use Prim.Native.Nat.{ℕ, suc, _+_, _-_, _*_, _/_, _%_, _≤_, _<_}
+use Prim.Native.Nat.{ℕ, suc, _+_, _/_, _%_, _≤_}
 use native.Mathlib.Omega.{arith}
 use lib.Dec.{ltb, eqb}
-use lib.ListN.{length, take, drop, getD}
+use lib.ListN.{length, take, drop}
 use Rattle.std.specs.declared.option.Option.{Option}
 use Rattle.std.specs.declared.option.Option.the-variants.{Some, None}
-use Rattle.std.specs.declared.result.Result.{Result}
 use Rattle.std.specs.declared.result.Result.the-variants.{Ok, Err}
-use Rattle.std.proofs.shelf.Lists.{take-append-drop, length-take-le, length-append, append-assoc, take-at, drop-at}
+use Rattle.std.proofs.shelf.Lists.{take-append-drop, length-take-le, length-append, take-at}
 use Rattle.std.proofs.shelf.Tests.{cond-true, cond-false, eq-eqb, eqb-true, le-ltb, ltb-false}
 use Rattle.bench.specs.declared.faults.Cause.the-variants.{CutShort, WrongLength}
-use Rattle.bench.specs.declared.faults.Fault.{Fault}
 use Rattle.study_file.specs.declared.codes.Kind.{Kind}
 use Rattle.study_file.specs.declared.codes.Kind.the-variants.{Protocol, Load, Store, Acquire, Release, Evict, Move}
 use Rattle.study_file.specs.Codes.{numbered-among, every-kind, kind-number, kind-named, fields-of}

@@ -43,9 +43,11 @@ abbrev pub numbered-among : {X : Type 0} → (X → ℕ) → List X → ℕ → 
 numbered-among number [] n = None
 numbered-among number (x ∷ xs) n = cond (eqb n (number x)) (Some x) (numbered-among number xs n)
 
+-- The codes that there are.
 abbrev pub every-code : List Code
 every-code = Neat ∷ (Mesi ∷ (BufferedNeat ∷ (BufferedMesi ∷ [])))
 
+-- The kinds that there are.
 abbrev pub every-kind : List Kind
 every-kind = Protocol ∷ (Load ∷ (Store ∷ (Acquire ∷ (Release ∷ (Evict ∷ (Move ∷ []))))))
 

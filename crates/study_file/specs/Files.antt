@@ -18,7 +18,7 @@ bytes-of n = (n % 256) ∷ ((n / 256) ∷ [])
 abbrev pub record-of : Kind → List ℕ → List ℕ
 record-of k body = bytes-of (2 + length body) ++ (bytes-of (kind-number k) ++ body)
 
--- The kind of a step, and its fields in order.
+-- The kind of the record of a step.
 abbrev pub kind-of : Step → Kind
 kind-of (Load c a) = A-load
 kind-of (Store c a b) = A-store
@@ -27,6 +27,7 @@ kind-of (Release c) = A-release
 kind-of (Evict c l) = An-evict
 kind-of (Move p) = A-move
 
+-- The fields of a step in order: core, then address or line, then byte; the place of a move.
 abbrev pub fields : Step → List ℕ
 fields (Load c a) = c ∷ (a ∷ [])
 fields (Store c a b) = c ∷ (a ∷ (b ∷ []))
@@ -35,9 +36,11 @@ fields (Release c) = c ∷ []
 fields (Evict c l) = c ∷ (l ∷ [])
 fields (Move p) = p ∷ []
 
+-- The record of a step.
 abbrev pub step-record : Step → List ℕ
 step-record k = record-of (kind-of k) (fields k)
 
+-- The record that names a protocol: its one field is the code's number.
 abbrev pub code-record : Code → List ℕ
 code-record c = record-of Protocol (code-number c ∷ [])
 

@@ -40,7 +40,7 @@ pub data Check : Type 0 where
 abbrev pub every-check : List Check
 every-check = Whole ∷ (Length-of-two ∷ (Known-kind ∷ (Length-of-kind ∷ (Protocol-first ∷ (Known-code ∷ (Room-for-step ∷ []))))))
 
--- The cause of the fault where a check fails, and the layer that finds it.
+-- The cause of the fault where a check fails.
 abbrev pub cause-of : Check → Cause
 cause-of Whole = CutShort
 cause-of Length-of-two = WrongLength
@@ -50,6 +50,7 @@ cause-of Protocol-first = ProtocolNotFirst
 cause-of Known-code = UnknownCode
 cause-of Room-for-step = TooLong
 
+-- The layer that finds it.
 abbrev pub layer-of : Check → Layer
 layer-of Whole = Reader
 layer-of Length-of-two = Reader
@@ -59,18 +60,20 @@ layer-of Protocol-first = Plan-layer
 layer-of Known-code = Plan-layer
 layer-of Room-for-step = Reader
 
--- What a record, the first of some bytes, says of itself: its length and the number of its kind.
+-- The length that the record at the start of some bytes says it has.
 abbrev pub length-at : List ℕ → ℕ
 length-at rest = two-bytes (getD rest 0 0) (getD rest 1 0)
 
+-- The number of the kind that it says it is.
 abbrev pub kind-at : List ℕ → ℕ
 kind-at rest = two-bytes (getD rest 2 0) (getD rest 3 0)
 
--- The sound records before a place: none, or those that ask for something.
+-- The bytes before a place where sound records stand: no record, or those of a code and steps.
 abbrev pub bytes-before : Option Asked → List ℕ
 bytes-before None = []
 bytes-before (Some x) = file-of (x .code) (x .steps)
 
+-- How many of those are steps.
 abbrev pub steps-before : Option Asked → ℕ
 steps-before None = 0
 steps-before (Some x) = length (x .steps)
@@ -80,7 +83,7 @@ abbrev pub Named-first : Option Asked → List ℕ → Type 0
 Named-first None rest = kind-at rest ≡ kind-number Protocol
 Named-first (Some x) rest = kind-at rest ≡ kind-number Protocol → ⊥
 
--- When a record, the first of some bytes, passes a check: its two length bytes and as many bytes as they say are there; that is at least
+-- When the record at the start of some bytes passes a check: its two length bytes and as many bytes as they say are there; that is at least
 -- two; it is of a known kind; it has that kind's fields; it names the protocol exactly if it is the first; if it names it, by a known
 -- code; if it is a step, at most 4,095 are before it.
 abbrev pub Passes : Option Asked → List ℕ → Check → Type 0
@@ -92,13 +95,13 @@ Passes b rest Protocol-first = Named-first b rest
 Passes b rest Known-code = kind-at rest ≡ kind-number Protocol → (c : Code) × (code-number c ≡ getD rest 4 0)
 Passes b rest Room-for-step = (kind-at rest ≡ kind-number Protocol → ⊥) → steps-before b < most-steps
 
--- A check is the first of some that fails.
+-- A check is the first of a list that fails.
 abbrev pub First-failed : (Check → Type 0) → List Check → Check → Type 0
 First-failed P [] why = ⊥
 First-failed P (c ∷ cs) why = ((c ≡ why) × (P c → ⊥)) ⊎ (P c × First-failed P cs why)
 
--- What a fault says of a file. Cause and place of any other are these: everything before the place is sound records, and the record at the
--- place fails the cause's check first.
+-- What a fault says of a file: it has more than 32,768 bytes; or it has none; or everything before the fault's place is sound records, and
+-- the check of the fault's cause is the first that the record at that place fails.
 pub data Faulty (file : List ℕ) : Fault → Type 0 where
   more-bytes : most-bytes < length file → Faulty file (reader-fault TooLong most-bytes)
   no-record : length file ≡ 0 → Faulty file (plan-fault ProtocolNotFirst 0)

@@ -56,9 +56,11 @@ abbrev pub as-step : ℕ → Item → Result Step Fault
 as-step p (Names n) = Err (plan-fault ProtocolNotFirst p)
 as-step p (Asks k) = Ok k
 
+-- The code in the first record.
 abbrev pub code-in : Found → Result Code Fault
 code-in r = as-code (r .place) (item-of (r .kind) (r .body))
 
+-- The step in a later record.
 abbrev pub step-in : Found → Result Step Fault
 step-in r = as-step (r .place) (item-of (r .kind) (r .body))
 
@@ -71,14 +73,17 @@ pub record Asked : Type 0 where
   pub code : Code
   pub steps : List Step
 
+-- A step in front of others, if those have no fault.
 abbrev pub with-step : Step → Result (List Step) Fault → Result (List Step) Fault
 with-step k (Ok ks) = Ok (k ∷ ks)
 with-step k (Err e) = Err e
 
+-- A code in front of steps, if those have no fault.
 abbrev pub with-code : Code → Result (List Step) Fault → Result Asked Fault
 with-code c (Ok ks) = Ok (record { code = c; steps = ks })
 with-code c (Err e) = Err e
 
+-- A record that is no step is a fault, and behind a step come `more`.
 abbrev pub then-step : Result Step Fault → (Step → Result (List Step) Fault) → Result (List Step) Fault
 then-step (Ok k) more = more k
 then-step (Err e) more = Err e
@@ -94,6 +99,7 @@ unfoldable pub steps-from : ℕ → ℕ → List ℕ → Result (List Step) Faul
 steps-from zero p rest = then-steps (next-at p rest) (λ r k. Err (reader-fault TooLong p))
 steps-from (suc n) p rest = then-steps (next-at p rest) (λ r k. with-step k (steps-from n (p + size-of r) (drop (size-of r) rest)))
 
+-- A record that names no known code is a fault, and behind a code come `more`.
 abbrev pub then-code : Result Code Fault → (Code → Result Asked Fault) → Result Asked Fault
 then-code (Ok c) more = more c
 then-code (Err e) more = Err e

@@ -54,6 +54,7 @@ record-at p (x ∷ []) = Err (reader-fault CutShort p)
 record-at p (low ∷ (high ∷ rest)) =
     cond (ltb (length rest) (two-bytes low high)) (Err (reader-fault CutShort p)) (content-at p (take (two-bytes low high) rest))
 
+-- A record that is there, as the next one.
 abbrev pub or-none : Result Found Fault → Result (Option Found) Fault
 or-none (Ok r) = Ok (Some r)
 or-none (Err e) = Err e
@@ -74,14 +75,16 @@ place-after p (Ok (Some r)) = p + (4 + length (r .body))
 place-after p (Ok None) = p
 place-after p (Err e) = p
 
--- Records by what they hold.
+-- A record as the reader hands it on, by its kind, the bytes of its body and its place.
 abbrev pub held : Record → Found
 held r = record { kind = r .kind; body = now (r .body); place = r .place }
 
+-- The same of an answer that has a record, or a fault.
 abbrev pub found : Result Record Fault → Result Found Fault
 found (Ok r) = Ok (held r)
 found (Err e) = Err e
 
+-- The same of an answer that has a record, none, or a fault.
 abbrev pub found-next : Result (Option Record) Fault → Result (Option Found) Fault
 found-next (Ok (Some r)) = Ok (Some (held r))
 found-next (Ok None) = Ok None

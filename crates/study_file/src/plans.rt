@@ -47,7 +47,7 @@ enum Item {
 }
 
 /// A plan has at most so many steps.
-pub const MOST_STEPS: usize = 4096;
+pub(crate) const MOST_STEPS: usize = 4096;
 
 pub impl From<Fault> for Failure as FailureFromFault {
     ghost converts = { λ e r. r ≡ HasFault e };
@@ -73,6 +73,7 @@ pub impl<T: Drop> From<Refused<T>> for Failure as FailureFromRefused {
     }
 }
 
+/// A fault that the plan finds in the record at a place.
 fn plan_fault(cause: Cause, place: u16) -> Fault
     ensures { λ r. ⌜ r ≡ plan-fault cause place ⌝ }
 {
@@ -83,6 +84,7 @@ fn plan_fault(cause: Cause, place: u16) -> Fault
     }
 }
 
+/// Takes a body apart into its fields.
 fn item_of(kind: Kind, body: &[u8]) -> Item
     requires { ⌜ length (now body) ≡ fields-of kind ⌝ }
     ensures { λ r. ⌜ r ≡ item-of kind (now (body .entry)) ⌝ }
@@ -109,6 +111,7 @@ fn item_of(kind: Kind, body: &[u8]) -> Item
     }
 }
 
+/// The code that the first record has to name.
 fn code_of(record: Record) -> Result<Code, Fault>
     requires { ⌜ length (now («record» .body)) ≡ fields-of («record» .kind) ⌝ }
     ensures { λ r. ⌜ r ≡ code-in (held («record» .entry)) ⌝ }
@@ -122,6 +125,7 @@ fn code_of(record: Record) -> Result<Code, Fault>
     }
 }
 
+/// The step that every later record has to be.
 fn step_of(record: Record) -> Result<Step, Fault>
     requires { ⌜ length (now («record» .body)) ≡ fields-of («record» .kind) ⌝ }
     ensures { λ r. ⌜ r ≡ step-in (held («record» .entry)) ⌝ }

@@ -25,7 +25,8 @@ pub struct Reader<'a> {
 /// A file has at most so many bytes.
 const MOST_BYTES: u16 = 32768;
 
-pub fn reader_fault(cause: Cause, place: u16) -> Fault
+/// A fault that the reader finds in the record at a place.
+pub(crate) fn reader_fault(cause: Cause, place: u16) -> Fault
     ensures { λ r. ⌜ r ≡ reader-fault cause place ⌝ }
 {
     Fault {
@@ -35,6 +36,7 @@ pub fn reader_fault(cause: Cause, place: u16) -> Fault
     }
 }
 
+/// The record at a place, where `content` is what follows its length: its kind and its body.
 fn content_at(place: u16, content: &[u8]) -> Result<Record<'_>, Fault>
     ensures { λ r. ⌜ found r ≡ content-at place (now (content .entry)) ⌝ }
 {
@@ -51,6 +53,7 @@ fn content_at(place: u16, content: &[u8]) -> Result<Record<'_>, Fault>
     }
 }
 
+/// The record at a place, where `rest` is the file from there on.
 fn record_at(place: u16, rest: &[u8]) -> Result<Record<'_>, Fault>
     ensures { λ r. ⌜ found r ≡ record-at place (now (rest .entry)) ⌝ }
 {

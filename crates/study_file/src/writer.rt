@@ -1,13 +1,12 @@
 //! The writer: it fills the start of a buffer with the file of a code and steps.
 
 ghost use mathlib.Core.Path.{_≡_};
-ghost use mathlib.Core.List.{[], _∷_};
 ghost use Prim.Native.Nat.{_+_, _≤_};
 ghost use lib.ListN.{length};
 ghost use Rattle.std.specs.shelf.Lists.{joined};
 ghost use Rattle.study_file.specs.Codes.{fields-of};
 ghost use Rattle.study_file.specs.Plans.{most-steps};
-ghost use Rattle.study_file.specs.Files.{bytes-of, record-of, kind-of, step-record, code-record};
+ghost use Rattle.study_file.specs.Files.{bytes-of, record-of, kind-of, step-record};
 ghost use Rattle.study_file.specs.Writer.{caller-fault, with-bytes, write-file};
 ghost use Rattle.study_file.specs.Laws.{Reads-back};
 use crate::codes::Code;
@@ -18,6 +17,7 @@ use bench::Fault;
 use bench::Layer;
 use protocol::Step;
 
+/// A fault of the caller.
 fn caller_fault(cause: Cause) -> Fault
     ensures { λ r. ⌜ r ≡ caller-fault cause ⌝ }
 {
@@ -28,6 +28,7 @@ fn caller_fault(cause: Cause) -> Fault
     }
 }
 
+/// The kind of a step's record.
 fn kind_of(step: Step) -> Kind
     ensures { λ r. ⌜ r ≡ kind-of step ⌝ }
 {
@@ -60,6 +61,7 @@ fn file_length(steps: &[Step]) -> usize
     length
 }
 
+/// A number as two bytes, the low one first.
 fn two_bytes(n: u16) -> [u8; 2]
     ensures { λ r. ⌜ r ≡ bytes-of n ⌝ }
 {

@@ -1,4 +1,3 @@
-use Prim.Native.Nat.{ℕ}
 use lib.ListN.{length}
 use Rattle.protocol.specs.declared.steps.Reply.{Reply}
 use Rattle.buffer_rules.specs.Scripts.{Runs}

@@ -1,5 +1,4 @@
 -- With no entry the release has ended; else the oldest has left, and the rest is released.
-use mathlib.Core.Path.{ap, _∙_}
 use Rattle.buffer_rules.proofs.Sentences.{release-ended, release-further}
 use Rattle.store_buffer.proofs.Answered.{answered, replied}
 use Rattle.store_buffer.proofs.Parted.{parted-some, parted-none}

@@ -1,5 +1,5 @@
 -- A store enters its byte; another call ends as the same call below.
-use mathlib.Core.Path.{refl, ap, _∙_}
+use mathlib.Core.Path.{ap, _∙_}
 use Rattle.buffer_rules.specs.Rules.{moved}
 use Rattle.buffer_rules.proofs.Sentences.{is-done, goes-straight}
 use Rattle.store_buffer.proofs.Answered.{answered, answered-with}

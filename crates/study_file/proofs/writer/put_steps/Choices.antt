@@ -1,5 +1,4 @@
 -- The records of the steps so far stand in the buffer.
-use mathlib.Core.Path.{_≡_}
 use Rattle.study_file.proofs.Filling.{Filled}
 use Rattle.study_file.proofs.writer.put_steps.Given as given
 

@@ -1,5 +1,4 @@
 -- Refused as tabled, or the core's work.
-use mathlib.Core.Path.{_∙_}
 use Prim.Native.Nat.{_<_}
 use native.Mathlib.Omega.{arith}
 use lib.ListN.{length}
@@ -17,4 +16,4 @@ pub returns-in-Ok : need.returns-in-Ok
 returns-in-Ok g c =
     let l : c .index-in-Ok .result < length (c .args .self .now .buffers) = omega arith in
     let a = admitted-ok _ _ _ (c .in-Ok .ensures tt) in
-    call-in (g .P·Protocol .machine .steps) (c .args .self .now .buffers) (c .index .result) (c .index-in-Ok .result) (c .evict-reply .last .buffer) (Evict (c .args .core) (c .args .line)) (straight (Evict (c .args .core) (c .args .line))) _ _ _ (a .0) (c .index .ensures ∙ a .1) (c .index-in-Ok .ensures ∙ a .1) l (c .evict-reply .ensures)
+    call-in (g .P·Protocol .machine .steps) (c .args .self .now .buffers) (c .index .result) (c .index-in-Ok .result) (c .in-Ok .caller .number) (c .evict-reply .last .buffer) (Evict (c .args .core) (c .args .line)) (straight (Evict (c .args .core) (c .args .line))) _ _ _ (a .0) (c .index .ensures) (c .index-in-Ok .ensures) (a .1) l (c .evict-reply .ensures)

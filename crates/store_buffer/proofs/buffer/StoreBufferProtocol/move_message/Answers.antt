@@ -17,9 +17,9 @@ returns-in-Err g c =
 pub returns-in-Ok : need.returns-in-Ok
 returns-in-Ok g c =
     let l : c .index-in-Ok .result < length (c .args .self .now .buffers) = omega arith in
-    let l8 : c .index-in-Ok .result < 8 = omega arith in
+    let l8 : c .in-Ok .caller .number < 8 = omega arith in
     let a : c .in-Ok .caller .number ≡ core-of (c .in-Finished .ended) = accepted-number 8 (c .core-of .result) (c .in-Ok .caller .number) NoSuchCore (c .in-Ok .ensures tt) .0 ∙ c .core-of .ensures in
-    move-in (g .P·Protocol .machine .steps) (c .args .self .now .buffers) (c .index .result) (c .index-in-Ok .result) (c .go-on-answer .last .buffer) (c .args .place) (g .P·Protocol .state (c .args .self .now .below)) (g .P·Protocol .state (c .move-message-reply .last .self)) (g .P·Protocol .state (c .go-on-answer .last .below)) (c .in-Finished .ended) (c .go-on-answer .result) (c .in-Finished .ensures tt) (c .index .ensures ∙ a) (c .index-in-Ok .ensures ∙ a) l8 l (c .go-on-answer .ensures)
+    move-in (g .P·Protocol .machine .steps) (c .args .self .now .buffers) (c .index .result) (c .index-in-Ok .result) (c .in-Ok .caller .number) (c .go-on-answer .last .buffer) (c .args .place) (g .P·Protocol .state (c .args .self .now .below)) (g .P·Protocol .state (c .move-message-reply .last .self)) (g .P·Protocol .state (c .go-on-answer .last .below)) (c .in-Finished .ended) (c .go-on-answer .result) (c .in-Finished .ensures tt) (c .index .ensures) (c .index-in-Ok .ensures) a l8 l (c .go-on-answer .ensures)
 
 pub returns-in-rest : need.returns-in-rest
 returns-in-rest g c = move-passes (g .P·Protocol .machine .steps) _ _ _ _ _ (c .move-message-reply .ensures) (c .in-rest .not-Finished)
