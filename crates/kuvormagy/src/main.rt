@@ -52,7 +52,8 @@ fn read_input(rt: &LibcRuntime, buffer: &mut [u8]) -> Result<usize, AnyError> {
     Ok(length)
 }
 
-fn print_study(rt: &LibcRuntime) -> Result<(), AnyError> {
+/// Prints the report of the file on standard input, or the line of its fault. Answers whether it was a report.
+fn print_study(rt: &LibcRuntime) -> Result<bool, AnyError> {
     let mut input = vec![in rt.alloc(); 0u8; MOST_READ]?;
     let mut page = vec![in rt.alloc(); 0u8; MOST_PRINTED]?;
     let length = read_input(rt, &mut input)?;
@@ -64,16 +65,21 @@ fn print_study(rt: &LibcRuntime) -> Result<(), AnyError> {
             if let Some(report) = page.as_slice().get(0..length) {
                 rt.stdout().write_all(report)?;
             }
-            Ok(())
+            Ok(true)
         }
         Text::FaultLine(line) => {
             rt.stdout().write_all(&line)?;
-            Err("".into())
+            Ok(false)
         }
         Text::OutOfMemory => Err("out of memory".into()),
     }
 }
 
+/// A fault ends with status 1 and nothing on standard error; what else goes wrong is said there.
 fn main(rt: LibcRuntime) -> Result<(), AnyError> {
-    print_study(&rt)
+    match print_study(&rt) {
+        Ok(true) => Ok(()),
+        Ok(false) => Err("".into()),
+        Err(error) => rt.report(Err(error)),
+    }
 }
