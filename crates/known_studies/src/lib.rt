@@ -344,6 +344,69 @@ mod tests {
         Ok(())
     }
 
+    // The fifth store waits for the oldest below; the move that ends that one names the store above, with its byte.
+    #[test]
+    fn a_move_names_the_call_above() -> Result<(), Fail> {
+        let study = [
+            Shown {
+                step: Step::Store {
+                    core: 0,
+                    address: 0,
+                    byte: 0x41,
+                },
+                line: *b"E 0 S 41 . 00\n",
+            },
+            Shown {
+                step: Step::Store {
+                    core: 0,
+                    address: 8,
+                    byte: 0x42,
+                },
+                line: *b"E 0 S 42 . 00\n",
+            },
+            Shown {
+                step: Step::Store {
+                    core: 0,
+                    address: 16,
+                    byte: 0x43,
+                },
+                line: *b"E 0 S 43 . 00\n",
+            },
+            Shown {
+                step: Step::Store {
+                    core: 0,
+                    address: 24,
+                    byte: 0x44,
+                },
+                line: *b"E 0 S 44 . 00\n",
+            },
+            Shown {
+                step: Step::Store {
+                    core: 0,
+                    address: 32,
+                    byte: 0x45,
+                },
+                line: *b"W 0 S -- . 00\n",
+            },
+            Shown {
+                step: Step::Move { place: 0 },
+                line: *b"M - - -- . 00\n",
+            },
+            Shown {
+                step: Step::Move { place: 0 },
+                line: *b"M 0 S 45 . 00\n",
+            },
+            Shown {
+                step: Step::Load {
+                    core: 0,
+                    address: 32,
+                },
+                line: *b"E 0 L 45 . 00\n",
+            },
+        ];
+        prints(StoreBuffer::new(Neat::new()), &study)
+    }
+
     // A drain that waits in its middle, through two buffers: settling ends it, and the image has both bytes.
     #[test]
     fn two_buffers_drain_through_neat() -> Result<(), Fail> {

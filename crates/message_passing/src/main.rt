@@ -1,5 +1,7 @@
 //! Two cores pass a byte: core 1 reads it too early, which is a race, and then again after core 0 has released and it has acquired.
 
+ghost use mathlib.Core.Path.{_≡_};
+ghost use Rattle.message_passing.specs.Studies.{bus-study, message-study, buffer-study};
 use bench::Answer;
 use bench::Bench;
 use bench::Request;
@@ -47,7 +49,9 @@ fn show<P: Protocol + Drop>(
 }
 
 /// The study where no call waits.
-fn on_the_bus() -> [Step; 5] {
+fn on_the_bus() -> [Step; 5]
+    ensures { λ r. ⌜ r ≡ bus-study ⌝ }
+{
     [
         Step::Store {
             core: 0,
@@ -68,7 +72,9 @@ fn on_the_bus() -> [Step; 5] {
 }
 
 /// The study under Neat: each message is moved where it stands. Line 1 of core 0 has place 1, its Close place 8; core 1 has 10 and 17.
-fn by_messages() -> [Step; 16] {
+fn by_messages() -> [Step; 16]
+    ensures { λ r. ⌜ r ≡ message-study ⌝ }
+{
     [
         Step::Store {
             core: 0,
@@ -100,7 +106,9 @@ fn by_messages() -> [Step; 16] {
 }
 
 /// The study under buffered Neat: the store ends at once, and goes below when core 0 releases.
-fn through_the_buffer() -> [Step; 16] {
+fn through_the_buffer() -> [Step; 16]
+    ensures { λ r. ⌜ r ≡ buffer-study ⌝ }
+{
     [
         Step::Store {
             core: 0,
