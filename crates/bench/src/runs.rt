@@ -11,7 +11,7 @@ use races::Outcome;
 impl<P: Protocol> Bench<P> {
     /// Takes the steps in order and writes the outcome of each.
     pub fn run(&mut self, steps: &[Step], outcomes: &mut [Outcome]) -> Result<(), Fault>
-        ensures made { Runs machine (state self.old.protocol) self.old.races steps.now outcomes.old result (state self.new.protocol) self.new.races outcomes.new }
+        ensures made { Runs P.machine (P.state self.old.protocol) self.old.races steps.now outcomes.old result (P.state self.new.protocol) self.new.races outcomes.new }
         ensures untouched { is_ok result ≡ false → self.new ≡ self.old }
     {
         if outcomes.len() < steps.len() {
@@ -30,7 +30,7 @@ impl<P: Protocol> Bench<P> {
     /// Moves the first open place until none is open or the outcomes are full. Answers how many moves were made, and whether a place
     /// is still open.
     pub fn settle(&mut self, outcomes: &mut [Outcome]) -> (usize, bool)
-        ensures { Settled machine (state self.old.protocol) self.old.races outcomes.old result.0 result.1 (state self.new.protocol) self.new.races outcomes.new }
+        ensures { Settled P.machine (P.state self.old.protocol) self.old.races outcomes.old result.0 result.1 (P.state self.new.protocol) self.new.races outcomes.new }
     {
         for index in 0..outcomes.len() {
             let Some(place) = self.next_open(0) else {

@@ -40,7 +40,7 @@ impl<P: Protocol> Bench<P> {
     /// Answers one request in the room that it wants, and writes its outcomes at the start of that. Answers too how many those are.
     fn answer(&mut self, request: Request, outcomes: &mut [Outcome]) -> (Answer, usize)
         requires { length outcomes.old ≡ room_of request }
-        ensures { Answered machine (state self.old.protocol) self.old.races request.entry outcomes.old result.0 result.1 (state self.new.protocol) self.new.races outcomes.new }
+        ensures { Answered P.machine (P.state self.old.protocol) self.old.races request.entry outcomes.old result.0 result.1 (P.state self.new.protocol) self.new.races outcomes.new }
     {
         match request {
             Request::Step(step) => (Answer::Stepped(self.step(step)), 0),
@@ -64,7 +64,7 @@ impl<P: Protocol> Bench<P> {
         answers: &mut [Answer],
         outcomes: &mut [Outcome],
     ) -> Result<usize, Fault>
-        ensures made { Studies machine requests.now answers.old outcomes.old result (state self.new.protocol) self.new.races answers.new outcomes.new }
+        ensures made { Studies P.machine requests.now answers.old outcomes.old result (P.state self.new.protocol) self.new.races answers.new outcomes.new }
         ensures untouched { is_ok result ≡ false → self.new ≡ self.old }
     {
         if answers.len() < requests.len() || !fit(requests, outcomes.len()) {

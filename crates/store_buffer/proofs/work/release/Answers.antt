@@ -16,4 +16,4 @@ returns-in-default-reply g c =
 pub returns : goal.returns
 returns g c =
     c.loop-oldest.invariant _ _
-    (release_last g.P.Protocol.machine.steps _ _ _ _ _ _ (parted_none _ c.in-default.ensures) c.release-reply.ensures (answered c.stop-2.ensures.answer c.stop-2.ensures.left))
+    (release_last g.P.Protocol.machine.steps _ _ _ _ _ _ (parted_none _ c.in_default.ensures) c.release-reply.ensures (answered c.stop-2.ensures.answer c.stop-2.ensures.left))

@@ -10,4 +10,4 @@ returns-in-None g c =
 
 pub returns-in-Some : goal.returns-in-Some
 returns-in-Some g c =
-    release_further g.P.Protocol.machine.steps _ _ _ _ _ _ _ _ _ _ (parted_some _ _ _ c.in-Some.ensures) c.release-reply.ensures (replied c.in-move.ensures)
+    release_further g.P.Protocol.machine.steps _ _ _ _ _ _ _ _ _ _ (parted_some _ _ _ c.in-Some.ensures) c.release-reply.ensures (replied c.in_move.ensures)

@@ -7,7 +7,7 @@ use Rattle.store_buffer.proofs.work.resume.Goals as goal
 
 pub returns-in-Store : goal.returns-in-Store
 returns-in-Store g c =
-    rw c.in-Store.is (is_done g.P.Protocol.machine.steps _ _ (answered_with (c.in-move.ensures ∙ ap moved c.enter.ensures.answer) c.enter.ensures.left c.shift-queue.ensures))
+    rw c.in-Store.is (is_done g.P.Protocol.machine.steps _ _ (answered_with (c.in_move.ensures ∙ ap moved c.enter.ensures.answer) c.enter.ensures.left c.shift-queue.ensures))
 
 pub returns-in-default : goal.returns-in-default
 returns-in-default g c = goes_straight g.P.Protocol.machine.steps _ _ c.args.call _ _ c.in-default.not-Store c.in-default.not-Release (answered c.stop.ensures.answer c.stop.ensures.left)

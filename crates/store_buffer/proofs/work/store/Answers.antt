@@ -9,4 +9,4 @@ returns-in-Some g c =
     store_entry g.P.Protocol.machine.steps c.args.core c.args.address c.args.byte _ _ _ _ (sym c.in-Some.ensures) (answered_with c.enter.ensures.answer c.enter.ensures.left c.replace-queue.ensures)
 
 pub returns-in-None : goal.returns-in-None
-returns-in-None g c = store_else g.P.Protocol.machine.steps c.args.core c.args.address c.args.byte _ _ _ _ (sym c.in-None.ensures) c.store-new.ensures
+returns-in-None g c = store_else g.P.Protocol.machine.steps c.args.core c.args.address c.args.byte _ _ _ _ (sym c.in-None.ensures) c.store_new.ensures

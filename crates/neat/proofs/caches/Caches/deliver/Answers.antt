@@ -7,10 +7,10 @@ use Rattle.neat.proofs.caches.Caches.deliver.Goals as goal
 
 pub returns-in-Line : goal.returns-in-Line
 returns-in-Line c =
-    line_changed c.args.self.now.cores c.args.self.now.llc c.index.result c.in-Line.core.number c.index-in-Line.result c.in-Line.line.number c.move-message.new.self c.index-self-index.result c.move-message.new.shared c.move-message.result (omega arith) (omega arith) c.in-Line.core.in_range c.in-Line.line.in_range c.index.ensures c.index-in-Line.ensures c.move-message.ensures.answer c.move-message.ensures.taken
+    line_changed c.args.self.now.cores c.args.self.now.llc c.index.result c.in-Line.core.number c.index-in-Line.result c.in-Line.line.number c.move_message.new.self c.index-self-index.result c.move_message.new.shared c.move_message.result (omega arith) (omega arith) c.in-Line.core.in_range c.in-Line.line.in_range c.index.ensures c.index-in-Line.ensures c.move_message.ensures.answer c.move_message.ensures.taken
     ∙ sym (ap (moved_there (as_state c.args.self.now)) c.in-Line.is)
 
 pub returns-in-Close : goal.returns-in-Close
 returns-in-Close c =
-    core_changed (λ (x : Core). close_place_moved x.closing c.in-Close.core.number x) c.args.self.now.cores c.args.self.now.llc c.index-in-Close.result c.in-Close.core.number c.move-close.new.self c.index-self-index-in-Close.result c.move-close.result (omega arith) c.in-Close.core.in_range c.index-in-Close.ensures c.move-close.ensures
+    core_changed (λ (x : Core). close_place_moved x.closing c.in-Close.core.number x) c.args.self.now.cores c.args.self.now.llc c.index-in-Close.result c.in-Close.core.number c.move_close.new.self c.index-self-index-in-Close.result c.move_close.result (omega arith) c.in-Close.core.in_range c.index-in-Close.ensures c.move_close.ensures
     ∙ sym (ap (moved_there (as_state c.args.self.now)) c.in-Close.is)

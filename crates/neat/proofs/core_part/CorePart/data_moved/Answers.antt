@@ -23,12 +23,12 @@ filled_stored x y d l o b e = ap (λ (u : Slot). with_slot y l (record { line = 
 
 pub returns-in-Loading : goal.returns-in-Loading
 returns-in-Loading c =
-    both (ap₂ (λ (n a : ℕ). Finished (Loaded n a (as_bytes c.args.bytes c.index.result))) c.core-number.ensures c.address-number.ensures ∙ ap (λ (o : ℕ). Finished (Loaded c.args.core.number c.in-Loading.address.number (as_bytes c.args.bytes o))) (c.index.ensures ∙ c.offset.ensures)) refl
+    both (ap₂ (λ (n a : ℕ). Finished (Loaded n a (as_bytes c.args.bytes c.index.result))) c.core_number.ensures c.address_number.ensures ∙ ap (λ (o : ℕ). Finished (Loaded c.args.core.number c.in-Loading.address.number (as_bytes c.args.bytes o))) (c.index.ensures ∙ c.offset.ensures)) refl
     ∙ by_activity (Loading c.in-Loading.address.number) (as_core c.args.self.now) (as_core c.fill.new.self) (as_bytes c.args.bytes) c.args.core.number c.args.line.number c.fill.ensures (ap as_activity c.in-Loading.is)
 
 pub returns-in-Storing : goal.returns-in-Storing
 returns-in-Storing c =
-    both (ap₂ (λ (n a : ℕ). Finished (Stored n a c.in-Storing.byte)) c.core-number-in-Storing.ensures c.address-number-in-Storing.ensures)
+    both (ap₂ (λ (n a : ℕ). Finished (Stored n a c.in-Storing.byte)) c.core_number-in-Storing.ensures c.address_number-in-Storing.ensures)
     (ap (λ (z : Core). with_activity z Idle) (c.write.ensures ∙ ap (λ (o : ℕ). stored_in (as_core c.fill.new.self) c.args.line.number o c.in-Storing.byte) c.offset-in-Storing.ensures ∙ filled_stored (as_core c.args.self.now) (as_core c.fill.new.self) (as_bytes c.args.bytes) c.args.line.number (offset_of c.in-Storing.address.number) c.in-Storing.byte c.fill.ensures))
     ∙ by_activity (Storing c.in-Storing.address.number c.in-Storing.byte) (as_core c.args.self.now) (as_core c.fill.new.self) (as_bytes c.args.bytes) c.args.core.number c.args.line.number c.fill.ensures (ap as_activity c.in-Storing.is)
 

@@ -7,7 +7,7 @@ pub returns-then-is-outstanding : goal.returns-then-is-outstanding
 returns-then-is-outstanding c = one_left (as_core c.args.self.now) c.loop-line.line (ap as_closing c.in-Shut.is) c.loop-line-test.true c.if-is-outstanding.ensures
 
 pub loop-line-preserved : goal.loop-line-preserved
-loop-line-preserved c = none_more c.loop-line.line (as_slots c.args.self.now.slots) c.loop-line.invariant c.if-is-outstanding.ensures
+loop-line-preserved c = none_more c.loop-line.line (as_slots c.args.self.now.slots) c.loop-line.invariant c.if-is_outstanding.ensures
 
 pub returns : goal.returns
 returns c = none_left (as_core c.args.self.now) c.loop-line.line (ap as_closing c.in-Shut.is) c.loop-line.invariant (omega arith)

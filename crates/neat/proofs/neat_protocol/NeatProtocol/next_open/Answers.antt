@@ -7,7 +7,7 @@ pub returns-then-is-open : goal.returns-then-is-open
 returns-then-is-open c = search_found (as_state c.args.self.now.caches) c.loop-number.number (omega arith) (sym c.if-is-open.ensures) ∙ sym c.loop-number.invariant
 
 pub loop-number-preserved : goal.loop-number-preserved
-loop-number-preserved c = c.loop-number.invariant ∙ search_more (as_state c.args.self.now.caches) c.loop-number.number (omega arith) (sym c.if-is-open.ensures)
+loop-number-preserved c = c.loop-number.invariant ∙ search_more (as_state c.args.self.now.caches) c.loop-number.number (omega arith) (sym c.if-is_open.ensures)
 
 pub returns : goal.returns
 returns c = search_done (as_state c.args.self.now.caches) c.loop-number.number (omega arith) ∙ sym c.loop-number.invariant
