@@ -21,7 +21,7 @@ pub struct Bench<P> {
 
 /// Puts a step to the protocol.
 fn ask<P: Protocol>(protocol: &mut P, step: Step) -> Reply
-    ensures { (Fit step) × (Machine.steps (state protocol.old) step result (state protocol.new)) }
+    ensures { (Fit step) × (P.machine.steps (P.state protocol.old) step result (P.state protocol.new)) }
 {
     match step {
         Step::Load { core, address } => protocol.load(core, address),
@@ -51,20 +51,20 @@ impl<P: Protocol> Bench<P> {
     }
 
     fn home(&self, address: u8) -> Result<u8, Refusal>
-        ensures { Machine.images (state self.now.protocol) address result }
+        ensures { P.machine.images (P.state self.now.protocol) address result }
     {
         self.protocol.image(address)
     }
 
     fn open_from(&self, place: u8) -> Option<u8>
-        ensures { Machine.opens (state self.now.protocol) place result }
+        ensures { P.machine.opens (P.state self.now.protocol) place result }
     {
         self.protocol.next_open(place)
     }
 
     /// Clears the protocol and the race table.
     fn clear(&mut self)
-        ensures fresh { Machine.fresh (state self.new.protocol) }
+        ensures fresh { P.machine.fresh (P.state self.new.protocol) }
         ensures table { self.new.races ≡ start }
     {
         self.protocol.clear();
@@ -73,9 +73,9 @@ impl<P: Protocol> Bench<P> {
 
     /// Sets a bench up over a protocol, in whatever state that is.
     pub fn new(protocol: P) -> Bench<P>
-        ensures fresh { Machine.fresh (state result.protocol) }
+        ensures fresh { P.machine.fresh (P.state result.protocol) }
         ensures table { result.races ≡ start }
-        ensures begins { Watched Machine (state result.protocol) result.races empty_log }
+        ensures begins { Watched P.machine (P.state result.protocol) result.races empty_log }
     {
         let mut bench = Bench {
             protocol,
@@ -87,29 +87,29 @@ impl<P: Protocol> Bench<P> {
 
     /// Sets the bench up again: the protocol is cleared, and a new study begins.
     pub fn set_up(&mut self)
-        ensures fresh { Machine.fresh (state self.new.protocol) }
+        ensures fresh { P.machine.fresh (P.state self.new.protocol) }
         ensures table { self.new.races ≡ start }
-        ensures begins { Watched Machine (state self.new.protocol) self.new.races empty_log }
+        ensures begins { Watched P.machine (P.state self.new.protocol) self.new.races empty_log }
     {
         self.clear();
     }
 
     /// Takes one step: the protocol's answer, with the race mark.
     pub fn step(&mut self, step: Step) -> Outcome
-        ensures { Takes Machine (state self.old.protocol) self.old.races step result (state self.new.protocol) self.new.races }
+        ensures { Takes P.machine (P.state self.old.protocol) self.old.races step result (P.state self.new.protocol) self.new.races }
     {
         let reply = ask(&mut self.protocol, step);
         self.races.mark(reply)
     }
 
     pub fn load(&mut self, core: u8, address: u8) -> Outcome
-        ensures { Takes Machine (state self.old.protocol) self.old.races (Load core address) result (state self.new.protocol) self.new.races }
+        ensures { Takes P.machine (P.state self.old.protocol) self.old.races (Load core address) result (P.state self.new.protocol) self.new.races }
     {
         self.step(Step::Load { core, address })
     }
 
     pub fn store(&mut self, core: u8, address: u8, byte: u8) -> Outcome
-        ensures { Takes Machine (state self.old.protocol) self.old.races (Store core address byte) result (state self.new.protocol) self.new.races }
+        ensures { Takes P.machine (P.state self.old.protocol) self.old.races (Store core address byte) result (P.state self.new.protocol) self.new.races }
     {
         self.step(Step::Store {
             core,
@@ -119,26 +119,26 @@ impl<P: Protocol> Bench<P> {
     }
 
     pub fn acquire(&mut self, core: u8) -> Outcome
-        ensures { Takes Machine (state self.old.protocol) self.old.races (Acquire core) result (state self.new.protocol) self.new.races }
+        ensures { Takes P.machine (P.state self.old.protocol) self.old.races (Acquire core) result (P.state self.new.protocol) self.new.races }
     {
         self.step(Step::Acquire { core })
     }
 
     pub fn release(&mut self, core: u8) -> Outcome
-        ensures { Takes Machine (state self.old.protocol) self.old.races (Release core) result (state self.new.protocol) self.new.races }
+        ensures { Takes P.machine (P.state self.old.protocol) self.old.races (Release core) result (P.state self.new.protocol) self.new.races }
     {
         self.step(Step::Release { core })
     }
 
     pub fn evict(&mut self, core: u8, line: u8) -> Outcome
-        ensures { Takes Machine (state self.old.protocol) self.old.races (Evict core line) result (state self.new.protocol) self.new.races }
+        ensures { Takes P.machine (P.state self.old.protocol) self.old.races (Evict core line) result (P.state self.new.protocol) self.new.races }
     {
         self.step(Step::Evict { core, line })
     }
 
     /// Moves the message at a place.
     pub fn move_message(&mut self, place: u8) -> Outcome
-        ensures { Takes Machine (state self.old.protocol) self.old.races (Move place) result (state self.new.protocol) self.new.races }
+        ensures { Takes P.machine (P.state self.old.protocol) self.old.races (Move place) result (P.state self.new.protocol) self.new.races }
     {
         self.step(Step::Move { place })
     }
@@ -146,7 +146,7 @@ impl<P: Protocol> Bench<P> {
     /// How many core calls have ended, at most 65,535.
     pub fn ended(&self) -> u16
         ensures value { result ≡ self.now.races.ended }
-        ensures counts { (log : Log) → Watched Machine (state self.now.protocol) self.now.races log → result ≡ number log.ended }
+        ensures counts { (log : Log) → Watched P.machine (P.state self.now.protocol) self.now.races log → result ≡ number log.ended }
     {
         self.count()
     }
@@ -154,23 +154,23 @@ impl<P: Protocol> Bench<P> {
     /// The number of the first race, or 0.
     pub fn first_race(&self) -> u16
         ensures value { result ≡ self.now.races.first_race }
-        ensures counts { (log : Log) → Watched Machine (state self.now.protocol) self.now.races log → result ≡ first_race log.ended }
+        ensures counts { (log : Log) → Watched P.machine (P.state self.now.protocol) self.now.races log → result ≡ first_race log.ended }
     {
         self.first()
     }
 
     /// The byte at home of an address.
     pub fn image(&self, address: u8) -> Result<u8, Refusal>
-        ensures answers { Machine.images (state self.now.protocol) address result }
-        ensures means { (log : Log) → Watched Machine (state self.now.protocol) self.now.races log → result ≡ image_of (Machine.moment (state self.now.protocol)) address }
+        ensures answers { P.machine.images (P.state self.now.protocol) address result }
+        ensures means { (log : Log) → Watched P.machine (P.state self.now.protocol) self.now.races log → result ≡ image_of (P.machine.moment (P.state self.now.protocol)) address }
     {
         self.home(address)
     }
 
     /// The first open place at or after a place.
     pub fn next_open(&self, place: u8) -> Option<u8>
-        ensures answers { Machine.opens (state self.now.protocol) place result }
-        ensures means { (log : Log) → Watched Machine (state self.now.protocol) self.now.races log → FirstOpen (Machine.moment (state self.now.protocol)) place result }
+        ensures answers { P.machine.opens (P.state self.now.protocol) place result }
+        ensures means { (log : Log) → Watched P.machine (P.state self.now.protocol) self.now.races log → FirstOpen (P.machine.moment (P.state self.now.protocol)) place result }
     {
         self.open_from(place)
     }

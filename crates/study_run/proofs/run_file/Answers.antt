@@ -10,10 +10,10 @@ use Rattle.study_run.proofs.run_file.Goals as goal
 
 pub returns : goal.returns
 returns c =
-    let plan = c.in-ok-plan.plan in
-    let is = c.in-ok-plan.ensures.reads in
-    let printed = subst (λ (z : List Step). Prints (machine_of plan.code) (heading_of plan.code) z c.args.out.now (Ok c.in-ok-length.length) c.print-plan.new.out) c.as-slice.ensures.value c.in-ok-length.ensures in
+    let plan = c.in_ok-plan.plan in
+    let is = c.in_ok-plan.ensures.reads in
+    let printed = subst (λ (z : List Step). Prints (machine_of plan.code) (heading_of plan.code) z c.args.out.now (Ok c.in_ok-length.length) c.print_plan.new.out) c.as_slice.ensures.value c.in_ok-length.ensures in
     record {
-      computed = plan_computed plan.code _ c.args.out.now c.print-plan.new.out (Ok c.in-ok-length.length) printed ∙ ap (λ (z : Result Asked Fault). read_comes_to z c.args.out.now) (sym is);
+      computed = plan_computed plan.code _ c.args.out.now c.print_plan.new.out (Ok c.in_ok-length.length) printed ∙ ap (λ (z : Result Asked Fault). read_comes_to z c.args.out.now) (sym is);
       study = (asked plan, is, printed);
     }

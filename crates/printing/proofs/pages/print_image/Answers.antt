@@ -8,19 +8,19 @@ loop-address-init g c = (omega arith, λ log h. filled_none c.args.out.now c.arg
 
 pub put-next-requires : goal.put-next-requires
 put-next-requires g c =
-    let n : length c.byte-digits.result ≡ 2 = ap length c.byte-digits.ensures in
+    let n : length c.byte_digits.result ≡ 2 = ap length c.byte_digits.ensures in
     let k = c.loop-address.invariant.0 in
     omega arith
 
 pub loop-address-preserved : goal.loop-address-preserved
 loop-address-preserved g c =
-    let n : length c.byte-digits.result ≡ 2 = ap length c.byte-digits.ensures in
+    let n : length c.byte_digits.result ≡ 2 = ap length c.byte_digits.ensures in
     let k = c.loop-address.invariant.0 in
     let e = c.put-next.ensures.value in (
       omega arith,
       λ log h.
           filled_at c.put-next.ensures.after c.put-next.ensures.value
-          (image_more (g.P.Protocol.machine.moment (g.P.Protocol.state c.args.bench.now.protocol)).view.home c.args.out.now c.loop-address.out c.byte-digits.result c.args.at c.loop-address.next c.loop-address.address c.unwrap-or-byte.result c.image.result c.loop-address-test.true (c.loop-address.invariant.1 log h) c.byte-digits.ensures c.unwrap-or-byte.ensures (c.image.ensures.means log h) (omega arith)),
+          (image_more (g.P.Protocol.machine.moment (g.P.Protocol.state c.args.bench.now.protocol)).view.home c.args.out.now c.loop-address.out c.byte_digits.result c.args.at c.loop-address.next c.loop-address.address c.unwrap_or-byte.result c.image.result c.loop-address-test.true (c.loop-address.invariant.1 log h) c.byte_digits.ensures c.unwrap_or-byte.ensures (c.image.ensures.means log h) (omega arith)),
     )
 
 pub returns : goal.returns

@@ -6,4 +6,4 @@ use Rattle.printing.proofs.pages.put.Goals as goal
 pub returns : goal.returns
 returns c =
     let n : length c.args.bytes.now ≡ c.args.at + length c.args.bytes.now - c.args.at = omega arith in
-    record { after = put_mid-paste c.args.at (c.args.at + length c.args.bytes.now - c.args.at) c.args.out.now c.copy-from-slice.new.self c.args.bytes.now (length c.args.bytes.now) c.copy-from-slice.ensures.after n refl; value = refl }
+    record { after = put_mid-paste c.args.at (c.args.at + length c.args.bytes.now - c.args.at) c.args.out.now c.copy_from_slice.new.self c.args.bytes.now (length c.args.bytes.now) c.copy_from_slice.ensures.after n refl; value = refl }

@@ -8,10 +8,10 @@ pub loop-oldest-preserved : goal.loop-oldest-preserved
 loop-oldest-preserved g c =
     λ x t h. c.loop-oldest.invariant x t (release_oldest g.P.Protocol.machine.steps _ _ _ _ _ _ _ _ _ (parted_some _ _ _ c.in-Some.ensures) c.in-Ended.ensures h)
 
-pub returns-in-default-reply : goal.returns-in-default-reply
-returns-in-default-reply g c =
+pub returns-in_default-reply : goal.returns-in_default-reply
+returns-in_default-reply g c =
     c.loop-oldest.invariant _ _
-    (release_stops g.P.Protocol.machine.steps _ _ _ _ _ _ _ _ (parted_some _ _ _ c.in-Some.ensures) c.store-reply.ensures (not_ended_from _ c.in-default-reply.not-Ended) (answered c.stop.ensures.answer c.stop.ensures.left))
+    (release_stops g.P.Protocol.machine.steps _ _ _ _ _ _ _ _ (parted_some _ _ _ c.in-Some.ensures) c.store-reply.ensures (not_ended_from _ c.in_default-reply.not-Ended) (answered c.stop.ensures.answer c.stop.ensures.left))
 
 pub returns : goal.returns
 returns g c =

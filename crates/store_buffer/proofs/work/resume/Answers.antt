@@ -9,5 +9,5 @@ pub returns-in-Store : goal.returns-in-Store
 returns-in-Store g c =
     rw c.in-Store.is (is_done g.P.Protocol.machine.steps _ _ (answered_with (c.in_move.ensures ∙ ap moved c.enter.ensures.answer) c.enter.ensures.left c.shift-queue.ensures))
 
-pub returns-in-default : goal.returns-in-default
-returns-in-default g c = goes_straight g.P.Protocol.machine.steps _ _ c.args.call _ _ c.in-default.not-Store c.in-default.not-Release (answered c.stop.ensures.answer c.stop.ensures.left)
+pub returns-in_default : goal.returns-in_default
+returns-in_default g c = goes_straight g.P.Protocol.machine.steps _ _ c.args.call _ _ c.in_default.not-Store c.in_default.not-Release (answered c.stop.ensures.answer c.stop.ensures.left)

@@ -22,7 +22,7 @@ returns-in-Ended g c =
     rw c.in-Four.is
     (oldest_ended g.P.Protocol.machine.steps _ _ _ _ _ _ _ _ _ _ c.in-Ended.ensures (is_done g.P.Protocol.machine.steps _ _ (answered c.enter-in-Ended.ensures.answer c.enter-in-Ended.ensures.left)))
 
-pub returns-in-default : goal.returns-in-default
-returns-in-default g c =
+pub returns-in_default : goal.returns-in_default
+returns-in_default g c =
     rw c.in-Four.is
-    (oldest_stops g.P.Protocol.machine.steps _ _ _ _ _ _ _ _ _ c.store-stored.ensures (not_ended_from _ c.in-default.not-Ended) (answered_with c.stop.ensures.answer c.stop.ensures.left (ap entries_of c.in-Four.is)))
+    (oldest_stops g.P.Protocol.machine.steps _ _ _ _ _ _ _ _ _ c.store-stored.ensures (not_ended_from _ c.in_default.not-Ended) (answered_with c.stop.ensures.answer c.stop.ensures.left (ap entries_of c.in-Four.is)))

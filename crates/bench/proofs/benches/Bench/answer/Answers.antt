@@ -23,4 +23,4 @@ pub returns-in-Image : goal.returns-in-Image
 returns-in-Image g c = image_answered g.P.Protocol.machine c.args.outcomes.now c.in-Image.is c.image.ensures.answers
 
 pub returns-in-NextOpen : goal.returns-in-NextOpen
-returns-in-NextOpen g c = open_answered g.P.Protocol.machine c.args.outcomes.now c.in-NextOpen.is c.next-open.ensures.answers
+returns-in-NextOpen g c = open_answered g.P.Protocol.machine c.args.outcomes.now c.in-NextOpen.is c.next_open.ensures.answers

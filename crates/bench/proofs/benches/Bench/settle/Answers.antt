@@ -8,14 +8,14 @@ use Rattle.bench.proofs.benches.Bench.settle.Goals as goal
 pub loop-index-init : goal.loop-index-init
 loop-index-init g c = ([], far_none g.P.Protocol.machine (FirstPlace g.P.Protocol.machine) (g.P.Protocol.state c.args.self.now.protocol) c.args.self.now.races c.args.outcomes.now)
 
-pub returns-in-default : goal.returns-in-default
-returns-in-default g c =
-    settle_done g.P.Protocol.machine g.met.P.Protocol.keeps _ _ _ _ c.args.outcomes.now c.loop-index.outcomes c.loop-index.index _ None _ c.loop-index.invariant refl refl (omega arith) c.in-default.ensures.answers (λ e. absurd (false≢true e))
+pub returns-in_default : goal.returns-in_default
+returns-in_default g c =
+    settle_done g.P.Protocol.machine g.met.P.Protocol.keeps _ _ _ _ c.args.outcomes.now c.loop-index.outcomes c.loop-index.index _ None _ c.loop-index.invariant refl refl (omega arith) c.in_default.ensures.answers (λ e. absurd (false≢true e))
 
 pub loop-index-preserved : goal.loop-index-preserved
 loop-index-preserved g c =
-    settle_more g.P.Protocol.machine _ _ _ _ _ _ _ c.loop-index.outcomes c.loop-index.index c.in-Some.place c.move-message.result (omega arith) c.loop-index.invariant c.in-Some.ensures.answers c.move-message.ensures
+    settle_more g.P.Protocol.machine _ _ _ _ _ _ _ c.loop-index.outcomes c.loop-index.index c.in-Some.place c.move_message.result (omega arith) c.loop-index.invariant c.in-Some.ensures.answers c.move_message.ensures
 
 pub returns : goal.returns
 returns g c =
-    settle_done g.P.Protocol.machine g.met.P.Protocol.keeps _ _ _ _ c.args.outcomes.now c.loop-index.outcomes c.loop-index.index _ c.next-open-2.result c.is-some.result c.loop-index.invariant (omega arith) c.is-some.ensures (omega arith) c.next-open-2.ensures.answers (λ e. omega arith)
+    settle_done g.P.Protocol.machine g.met.P.Protocol.keeps _ _ _ _ c.args.outcomes.now c.loop-index.outcomes c.loop-index.index _ c.next_open-2.result c.is_some.result c.loop-index.invariant (omega arith) c.is_some.ensures (omega arith) c.next_open-2.ensures.answers (λ e. omega arith)

@@ -6,8 +6,8 @@ use Rattle.neat.proofs.Parts.{both}
 use Rattle.neat.proofs.Sending.{none_sent, sent_few, sent_one, sent_more, all_sent}
 use Rattle.neat.proofs.core_part.CorePart.acquire.Goals as goal
 
-pub overflow-add-commits : goal.overflow-add-commits
-overflow-add-commits c =
+pub overflow_add-commits : goal.overflow_add-commits
+overflow_add-commits c =
     let few = sent_few (emptied Commit) c.args.self.now.slots c.loop-line.self.slots c.loop-line.line c.loop-line.commits c.loop-line.invariant.0 in
     let one : c.acquire-commits.result ≤ 1 = subst (λ (n : ℕ). n ≤ 1) (sym c.acquire-commits.ensures.sent) (sent_one (emptied Commit) c.args.self.now.slots c.loop-line.self.slots c.loop-line.line c.loop-line.commits c.loop-line.invariant.0) in
     omega arith

@@ -16,8 +16,8 @@ store_valid : (k : Line) (c a y : ℕ) (x : Core) → (x.slot (line_of a)).line 
 store_valid I c a y x e f = absurd (false≢true f)
 store_valid (V b) c a y x e f = both refl (ap (λ (k : Line). with_slot x (line_of a) (record { line = written_in k (offset_of a) y; place = (x.slot (line_of a)).place })) e)
 
-pub returns-then-is-valid : goal.returns-then-is-valid
-returns-then-is-valid c =
-    both (ap₂ (λ (n a : ℕ). AtOnce (Stored n a c.args.byte)) c.core-number.ensures c.address-number.ensures)
-    (c.write.ensures ∙ ap₂ (λ (l o : ℕ). stored_in (as_core c.args.self.now) l o c.args.byte) c.line-then-is-valid.ensures c.offset.ensures)
-    ∙ store_valid (as_slots c.args.self.now.slots (line_of c.args.address.number)).line c.args.core.number c.args.address.number c.args.byte (as_core c.args.self.now) refl (sym (c.if-is-valid.ensures ∙ ap (λ (i : ℕ). is_valid (as_slots c.args.self.now.slots i).line) (c.index.ensures ∙ c.line.ensures)))
+pub returns-then-is_valid : goal.returns-then-is_valid
+returns-then-is_valid c =
+    both (ap₂ (λ (n a : ℕ). AtOnce (Stored n a c.args.byte)) c.core_number.ensures c.address_number.ensures)
+    (c.write.ensures ∙ ap₂ (λ (l o : ℕ). stored_in (as_core c.args.self.now) l o c.args.byte) c.line-then-is_valid.ensures c.offset.ensures)
+    ∙ store_valid (as_slots c.args.self.now.slots (line_of c.args.address.number)).line c.args.core.number c.args.address.number c.args.byte (as_core c.args.self.now) refl (sym (c.if-is_valid.ensures ∙ ap (λ (i : ℕ). is_valid (as_slots c.args.self.now.slots i).line) (c.index.ensures ∙ c.line.ensures)))

@@ -2,5 +2,5 @@ use Rattle.neat.specs.Whole.{as_state}
 use Rattle.neat.proofs.Steps.{reached_start}
 use Rattle.neat.proofs.neat_protocol.Neat.new.Goals as goal
 
-pub invariant-of-result : goal.invariant-of-result
-invariant-of-result c = (reached_start (as_state c.new.result) c.new.ensures, tt)
+pub invariant_of-result : goal.invariant_of-result
+invariant_of-result c = (reached_start (as_state c.new.result) c.new.ensures, tt)

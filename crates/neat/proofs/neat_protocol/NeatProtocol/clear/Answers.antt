@@ -2,5 +2,5 @@ use Rattle.neat.specs.Whole.{as_state}
 use Rattle.neat.proofs.Steps.{reached_start}
 use Rattle.neat.proofs.neat_protocol.NeatProtocol.clear.Goals as goal
 
-pub invariant-of-self : goal.invariant-of-self
-invariant-of-self c = (reached_start (as_state c.new-self.result) c.new-self.ensures, tt)
+pub invariant_of-self : goal.invariant_of-self
+invariant_of-self c = (reached_start (as_state c.new-self.result) c.new-self.ensures, tt)

@@ -3,8 +3,8 @@ use Rattle.neat.specs.Whole.{as_state}
 use Rattle.neat.proofs.Opening.{search_more, search_found, search_done}
 use Rattle.neat.proofs.neat_protocol.NeatProtocol.next_open.Goals as goal
 
-pub returns-then-is-open : goal.returns-then-is-open
-returns-then-is-open c = search_found (as_state c.args.self.now.caches) c.loop-number.number (omega arith) (sym c.if-is-open.ensures) ∙ sym c.loop-number.invariant
+pub returns-then-is_open : goal.returns-then-is_open
+returns-then-is_open c = search_found (as_state c.args.self.now.caches) c.loop-number.number (omega arith) (sym c.if-is_open.ensures) ∙ sym c.loop-number.invariant
 
 pub loop-number-preserved : goal.loop-number-preserved
 loop-number-preserved c = c.loop-number.invariant ∙ search_more (as_state c.args.self.now.caches) c.loop-number.number (omega arith) (sym c.if-is_open.ensures)

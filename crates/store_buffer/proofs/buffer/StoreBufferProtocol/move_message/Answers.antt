@@ -18,5 +18,5 @@ returns-in-Ok g c =
     let a : c.in-Ok.caller.number ≡ core_of c.in-Finished.ended = (accepted_number 8 c.core_of.result c.in-Ok.caller.number NoSuchCore c.in-Ok.ensures).0 ∙ c.core_of.ensures in
     move_in g.P.Protocol.machine.steps c.args.self.now.buffers c.index.result c.index-in-Ok.result c.in-Ok.caller.number c.go_on-answer.new.buffer c.args.place (g.P.Protocol.state c.args.self.now.below) (g.P.Protocol.state c.move_message-reply.new.self) (g.P.Protocol.state c.go_on-answer.new.below) c.in-Finished.ended c.go_on-answer.result c.in-Finished.ensures c.index.ensures c.index-in-Ok.ensures a l8 l c.go_on-answer.ensures
 
-pub returns-in-default : goal.returns-in-default
-returns-in-default g c = move_passes g.P.Protocol.machine.steps _ _ _ _ _ c.move-message-reply.ensures c.in-default.not-Finished
+pub returns-in_default : goal.returns-in_default
+returns-in_default g c = move_passes g.P.Protocol.machine.steps _ _ _ _ _ c.move_message-reply.ensures c.in_default.not-Finished

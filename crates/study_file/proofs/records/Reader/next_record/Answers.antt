@@ -10,18 +10,18 @@ returns-then-place-self c = record {
   file = search rules;
 }
 
-pub returns-in-err-record : goal.returns-in-err-record
-returns-in-err-record c =
-    let e = err_from_is_err_and c.from-residual.result c.from-residual.ensures.1 in
+pub returns-in_err-record : goal.returns-in_err-record
+returns-in_err-record c =
+    let e = err_from_is_err_and c.from_residual.result c.from_residual.ensures.1 in
     rw (e.1, e.2) (record {
-      next = next_some c.args.self.now.place c.args.self.now.file.now _ c.if-self.false c.if-place-self.false c.in-err-record.ensures;
+      next = next_some c.args.self.now.place c.args.self.now.file.now _ c.if-self.false c.if-place-self.false c.in_err-record.ensures;
       place = search rules;
       file = search rules;
     })
 
 pub returns : goal.returns
 returns c = record {
-  next = next_some c.args.self.now.place c.args.self.now.file.now _ c.if-self.false c.if-place-self.false c.in-ok-record.ensures;
+  next = next_some c.args.self.now.place c.args.self.now.file.now _ c.if-self.false c.if-place-self.false c.in_ok-record.ensures;
   place = search rules;
   file = search rules;
 }
