@@ -29,7 +29,7 @@ fn print_steps<P: Protocol>(
     at: usize,
 ) -> usize
     requires { at + 14 * length steps.now ≤ length out.old }
-    ensures { StepsPrinted machine (state bench.old.protocol) bench.old.races steps.now out.old out.new at result (state bench.new.protocol) bench.new.races }
+    ensures { StepsPrinted P.machine (P.state bench.old.protocol) bench.old.races steps.now out.old out.new at result (P.state bench.new.protocol) bench.new.races }
 {
     let mut next = at;
     for step in steps {
@@ -43,7 +43,7 @@ fn print_steps<P: Protocol>(
 fn print_image<P: Protocol>(bench: &Bench<P>, out: &mut [u8], at: usize) -> usize
     requires { at + 128 ≤ length out.old }
     ensures value { result ≡ at + 128 }
-    ensures after { (log : Log) → Watched machine (state bench.now.protocol) bench.now.races log → out.new ≡ take at out.old ++ (image_digits (machine.moment (state bench.now.protocol)).view.home 64 ++ drop (at + 128) out.old) }
+    ensures after { (log : Log) → Watched P.machine (P.state bench.now.protocol) bench.now.races log → out.new ≡ take at out.old ++ (image_digits (P.machine.moment (P.state bench.now.protocol)).view.home 64 ++ drop (at + 128) out.old) }
 {
     let mut next = at;
     for address in 0..64u8 {
@@ -67,7 +67,7 @@ pub fn print_study<P: Protocol + Drop>(
     steps: &[Step],
     out: &mut [u8],
 ) -> Result<usize, Fault>
-    ensures { Prints machine heading steps.now out.old result out.new }
+    ensures { Prints P.machine heading steps.now out.old result out.new }
 {
     if out.len() < report_length(steps.len()) {
         return Err(Fault {

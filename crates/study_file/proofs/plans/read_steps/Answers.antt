@@ -23,8 +23,8 @@ returns-in_err-step c =
     fault_exit vec_items _ c.from_residual-in_err-step.result c.in_err-step.field-0.0 c.from_residual-in_err-step.ensures.1
     (going_bad _ _ _ _ c.loop-steps.invariant (held c.in-Some.record) c.in_err-step.field-0.0 (handed _ _ _ c.in-Some.is c.in_ok-record.ensures.next) c.in_err-step.ensures)
 
-pub returns-then-len-eq-MOST-STEPS : goal.returns-then-len-eq-MOST-STEPS
-returns-then-len-eq-MOST-STEPS c =
+pub returns-then-len-eq-MOST_STEPS : goal.returns-then-len-eq-MOST_STEPS
+returns-then-len-eq-MOST_STEPS c =
     going_full _ _ _ _ c.loop-steps.invariant (held c.in-Some.record) c.in_ok-step.step (handed _ _ _ c.in-Some.is c.in_ok-record.ensures.next) c.in_ok-step.ensures
     (omega (arith, c.loop-steps.steps.ok.0)) ∙ ap Err (sym c.reader_fault.ensures)
 

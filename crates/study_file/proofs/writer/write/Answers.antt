@@ -6,5 +6,5 @@ use Rattle.study_file.proofs.writer.write.Goals as goal
 pub returns : goal.returns
 returns c =
     kept c.args.code c.args.steps.now c.args.buffer.now _ _ (file_written c.args.code c.in-Some.code c.args.steps.now c.args.buffer.now c.put_record-at.new.buffer c.put_steps.new.buffer c.file_length.result c.put_record-at.result c.put_steps.result
-    c.number.result c.in-Some.ensures c.if-steps-gt-MOST-STEPS.false c.file_length.ensures c.if-buffer-file_length.false c.number.ensures c.put_record-at.ensures.place
+    c.number.result c.in-Some.ensures c.if-steps-gt-MOST_STEPS.false c.file_length.ensures c.if-buffer-file_length.false c.number.ensures c.put_record-at.ensures.place
     c.put_record-at.ensures.buffer c.put_steps.ensures.place c.put_steps.ensures.buffer)

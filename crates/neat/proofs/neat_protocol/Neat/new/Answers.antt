@@ -3,4 +3,4 @@ use Rattle.neat.proofs.Steps.{reached_start}
 use Rattle.neat.proofs.neat_protocol.Neat.new.Goals as goal
 
 pub invariant_of-result : goal.invariant_of-result
-invariant_of-result c = (reached_start (as_state c.new.result) c.new.ensures, tt)
+invariant_of-result c = record { reached = reached_start (as_state c.new.result) c.new.ensures }

@@ -3,4 +3,4 @@ use Rattle.neat.proofs.Steps.{reached_start}
 use Rattle.neat.proofs.neat_protocol.NeatProtocol.clear.Goals as goal
 
 pub invariant_of-self : goal.invariant_of-self
-invariant_of-self c = (reached_start (as_state c.new-self.result) c.new-self.ensures, tt)
+invariant_of-self c = record { reached = reached_start (as_state c.new-self.result) c.new-self.ensures }

@@ -4,8 +4,9 @@ use Rattle.neat.proofs.Steps.{reached_step, evict_step}
 use Rattle.neat.proofs.neat_protocol.NeatProtocol.evict.Goals as goal
 
 pub invariant_of-self : goal.invariant_of-self
-invariant_of-self c = (
-  reached_step (as_state c.args.self.now.caches) (Evict c.args.core c.args.line) (c.evict.result, as_state c.evict.new.self) (c.ranges.core.fits, c.ranges.line.fits) c.args.self.now.reached
-      (evict_step (as_state c.args.self.now.caches) c.args.core c.in-Ok.core.number c.in-Ok.ensures c.if-waits.ensures c.args.line c.in-Ok-new.line.number (c.evict.result, as_state c.evict.new.self) c.in-Ok-new.ensures c.evict.ensures),
-  tt,
-)
+invariant_of-self c =
+    record {
+      reached =
+          reached_step (as_state c.args.self.now.caches) (Evict c.args.core c.args.line) (c.evict.result, as_state c.evict.new.self) (c.ranges.core.fits, c.ranges.line.fits) c.args.self.now.reached
+          (evict_step (as_state c.args.self.now.caches) c.args.core c.in-Ok.core.number c.in-Ok.ensures c.if-waits.ensures c.args.line c.in-Ok-new.line.number (c.evict.result, as_state c.evict.new.self) c.in-Ok-new.ensures c.evict.ensures);
+    }

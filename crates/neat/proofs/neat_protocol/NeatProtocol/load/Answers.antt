@@ -4,8 +4,9 @@ use Rattle.neat.proofs.Steps.{reached_step, load_step}
 use Rattle.neat.proofs.neat_protocol.NeatProtocol.load.Goals as goal
 
 pub invariant_of-self : goal.invariant_of-self
-invariant_of-self c = (
-  reached_step (as_state c.args.self.now.caches) (Load c.args.core c.args.address) (c.load.result, as_state c.load.new.self) (c.ranges.core.fits, c.ranges.address.fits) c.args.self.now.reached
-      (load_step (as_state c.args.self.now.caches) c.args.core c.in-Ok.core.number c.in-Ok.ensures c.if-waits.ensures c.args.address c.in-Ok-new.address.number (c.load.result, as_state c.load.new.self) c.in-Ok-new.ensures c.load.ensures),
-  tt,
-)
+invariant_of-self c =
+    record {
+      reached =
+          reached_step (as_state c.args.self.now.caches) (Load c.args.core c.args.address) (c.load.result, as_state c.load.new.self) (c.ranges.core.fits, c.ranges.address.fits) c.args.self.now.reached
+          (load_step (as_state c.args.self.now.caches) c.args.core c.in-Ok.core.number c.in-Ok.ensures c.if-waits.ensures c.args.address c.in-Ok-new.address.number (c.load.result, as_state c.load.new.self) c.in-Ok-new.ensures c.load.ensures);
+    }

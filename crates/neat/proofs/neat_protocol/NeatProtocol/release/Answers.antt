@@ -4,8 +4,9 @@ use Rattle.neat.proofs.Steps.{reached_step, release_step}
 use Rattle.neat.proofs.neat_protocol.NeatProtocol.release.Goals as goal
 
 pub invariant_of-self : goal.invariant_of-self
-invariant_of-self c = (
-  reached_step (as_state c.args.self.now.caches) (Release c.args.core) (c.release.result, as_state c.release.new.self) c.ranges.core.fits c.args.self.now.reached
-      (release_step (as_state c.args.self.now.caches) c.args.core c.in-Ok.core.number c.in-Ok.ensures c.if-waits.ensures (c.release.result, as_state c.release.new.self) c.release.ensures),
-  tt,
-)
+invariant_of-self c =
+    record {
+      reached =
+          reached_step (as_state c.args.self.now.caches) (Release c.args.core) (c.release.result, as_state c.release.new.self) c.ranges.core.fits c.args.self.now.reached
+          (release_step (as_state c.args.self.now.caches) c.args.core c.in-Ok.core.number c.in-Ok.ensures c.if-waits.ensures (c.release.result, as_state c.release.new.self) c.release.ensures);
+    }

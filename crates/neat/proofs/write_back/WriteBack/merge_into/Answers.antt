@@ -10,6 +10,6 @@ returns c = all_merged c.loop-offset.offset c.args.self.bytes c.args.self.writte
 pub loop-offset-preserved : goal.loop-offset-preserved
 loop-offset-preserved c =
     elim c.if-is_written.branch [
-      | then-is_written w ↦ (omega arith, subst (λ (xs : List ℕ). (o : ℕ) → as_bytes xs o ≡ merged_below (c.loop-offset.offset + 1) (as_block c.args.self.bytes c.args.self.written) (as_bytes c.args.line.now) o) (sym w.line_is) (written_more c.loop-offset.offset (as_block c.args.self.bytes c.args.self.written) (as_bytes c.args.line.now) c.loop-offset.line (get_or c.args.self.bytes c.loop-offset.offset 0) (omega arith) (sym w.if-is_written.ensures) refl c.loop-offset.invariant.1))
-      | else-is_written w ↦ (omega arith, subst (λ (xs : List ℕ). (o : ℕ) → as_bytes xs o ≡ merged_below (c.loop-offset.offset + 1) (as_block c.args.self.bytes c.args.self.written) (as_bytes c.args.line.now) o) (sym w.line_is) (left_more c.loop-offset.offset (as_block c.args.self.bytes c.args.self.written) (as_bytes c.args.line.now) c.loop-offset.line (sym w.if-is_written.ensures) c.loop-offset.invariant.1))
+      | then-is_written w ↦ (omega arith, subst (λ (xs : List ℕ). (o : ℕ) → as_bytes xs o ≡ merged_below (c.loop-offset.offset + 1) (as_block c.args.self.bytes c.args.self.written) (as_bytes c.args.line.now) o) (sym w.line-is) (written_more c.loop-offset.offset (as_block c.args.self.bytes c.args.self.written) (as_bytes c.args.line.now) c.loop-offset.line (get_or c.args.self.bytes c.loop-offset.offset 0) (omega arith) (sym w.if-is_written.ensures) refl c.loop-offset.invariant.1))
+      | else-is_written w ↦ (omega arith, subst (λ (xs : List ℕ). (o : ℕ) → as_bytes xs o ≡ merged_below (c.loop-offset.offset + 1) (as_block c.args.self.bytes c.args.self.written) (as_bytes c.args.line.now) o) (sym w.line-is) (left_more c.loop-offset.offset (as_block c.args.self.bytes c.args.self.written) (as_bytes c.args.line.now) c.loop-offset.line (sym w.if-is_written.ensures) c.loop-offset.invariant.1))
     ]
