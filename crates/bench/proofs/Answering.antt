@@ -1,5 +1,5 @@
 -- Each kind of request, answered in its room.
-use Rattle.std.proofs.Common.{◌≡◌, ℕ, ◌+◌, ◌<◌, ◌≤◌, Bool, true, List, [], ◌∷◌, ◌++◌, length, drop, Ok, Err, Option, Result, sym, refl, ap, ◌∙◌, subst, zero-le, arith, Bor}
+use Rattle.std.proofs.Common.{◌≡◌, ℕ, ◌<◌, ◌≤◌, Bool, List, [], length, Ok, Err, Option, Result, sym, refl, ap, ◌∙◌, subst, zero-le, arith, Bor}
 use Rattle.protocol.specs.declared.steps.Step.{Step}
 use Rattle.protocol.specs.declared.steps.Refusal.{Refusal}
 use Rattle.protocol.specs.Meaning.{Machine}
@@ -9,10 +9,9 @@ use Rattle.races.specs.Study.{Takes}
 use Rattle.bench.specs.declared.faults.Fault.{Fault}
 use Rattle.bench.specs.declared.requests.Request.{Request}
 use Rattle.bench.specs.declared.requests.Request.TheVariants.{Step as One, Run, Settle, Image, NextOpen}
-use Rattle.bench.specs.declared.requests.Answer.{Answer}
 use Rattle.bench.specs.declared.requests.Answer.TheVariants.{Stepped, Ran as RunIs, Settled as SettledIs, Imaged, Found}
 use Rattle.bench.specs.Faults.{few_outcomes}
-use Rattle.bench.specs.Chains.{Chain, Ran, Settled, AnyStep}
+use Rattle.bench.specs.Chains.{Ran, Settled, AnyStep}
 use Rattle.bench.specs.Requests.{Asks, stepped, ran, no_room, settled, imaged, found, Answered, room_of}
 use Rattle.bench.proofs.Chaining.{chain_length}
 

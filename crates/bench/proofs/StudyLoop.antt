@@ -1,13 +1,13 @@
 -- A study's loop: the requests so far are answered, their outcomes are written one after the other, and the rest is as it was.
-use Rattle.std.proofs.Common.{◌≡◌, ℕ, ◌+◌, ◌-◌, ◌<◌, ◌≤◌, List, [], ◌∷◌, ◌++◌, length, get_or, take, drop, set, sym, refl, ap, ◌∙◌, subst, zero-le, arith}
+use Rattle.std.proofs.Common.{◌≡◌, ℕ, ◌+◌, ◌<◌, ◌≤◌, List, [], ◌∷◌, ◌++◌, length, get_or, take, drop, set, sym, refl, ap, ◌∙◌, subst, zero-le, arith}
 use borrow.Rule.Slice.PartMut.{put_mid}
-use Rattle.std.proofs.lemmas.List.{append_assoc, length-append, length-take-le, length-drop, length-set, take-append-drop, take_at, drop_at, take_all, take_more, take_more_set, drop-append-le, drop-drop, drop-set-lt}
+use Rattle.std.proofs.lemmas.List.{append_assoc, length-append, length-take-le, length-drop, take-append-drop, take_at, drop_at, take_all, take_more, take_more_set, drop-append-le, drop-drop, drop-set-lt}
 use Rattle.protocol.specs.Meaning.{Machine, Meaning}
 use Rattle.races.specs.declared.outcomes.Outcome.{Outcome}
 use Rattle.races.specs.declared.table.RaceTable.{RaceTable}
 use Rattle.races.specs.Log.{empty_log}
 use Rattle.races.specs.Table.{start}
-use Rattle.races.specs.Study.{Study, set_up, Watched}
+use Rattle.races.specs.Study.{set_up, Watched}
 use Rattle.bench.specs.declared.requests.Request.{Request}
 use Rattle.bench.specs.declared.requests.Answer.{Answer}
 use Rattle.bench.specs.Requests.{Asks_all, no_more, room_of, rooms_of, Answered, Whole}

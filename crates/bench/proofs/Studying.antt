@@ -1,13 +1,12 @@
 -- The guarantee holds at every point of every study, whatever is asked: what the bench answered carries the study on.
-use Rattle.std.proofs.Common.{◌≡◌, List, [], ◌∷◌, ◌++◌, sym, refl, ap, ◌∙◌, subst}
+use Rattle.std.proofs.Common.{List, [], ◌∷◌, ◌++◌, sym, subst}
 use Rattle.std.proofs.lemmas.List.{append-nil, append_assoc}
-use Rattle.protocol.specs.declared.steps.Step.{Step}
 use Rattle.protocol.specs.Meaning.{Machine, Meaning}
 use Rattle.races.specs.declared.outcomes.Outcome.{Outcome}
 use Rattle.races.specs.declared.table.RaceTable.{RaceTable}
 use Rattle.races.specs.Log.{Log, feed}
 use Rattle.races.specs.Table.{reply_of}
-use Rattle.races.specs.Study.{Watched, Takes}
+use Rattle.races.specs.Study.{Watched}
 use Rattle.bench.specs.declared.requests.Request.{Request}
 use Rattle.bench.specs.declared.requests.Answer.{Answer}
 use Rattle.bench.specs.Chains.{AnyStep, FirstPlace}

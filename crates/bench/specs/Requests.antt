@@ -1,5 +1,5 @@
 -- What a list of requests makes of a bench: a whole study, and the guarantee at every point of it.
-use Rattle.std.specs.Prelude.{◌≡◌, ℕ, ◌+◌, ◌<◌, ◌≤◌, Bool, true, false, ◌⊎◌, List, [], ◌∷◌, ◌++◌, length, drop, is_some, Some, None, Ok, Err, Option, Result}
+use Rattle.std.specs.Prelude.{◌≡◌, ℕ, ◌+◌, ◌<◌, ◌≤◌, true, ◌⊎◌, List, [], ◌∷◌, ◌++◌, length, drop, is_some, Ok, Err, Option, Result}
 use Rattle.std.specs.Borrow.{Bor}
 use Rattle.protocol.specs.declared.steps.Step.{Step}
 use Rattle.protocol.specs.declared.steps.Refusal.{Refusal}
@@ -15,7 +15,7 @@ use Rattle.bench.specs.declared.requests.Request.TheVariants.{Step as One, Run, 
 use Rattle.bench.specs.declared.requests.Answer.{Answer}
 use Rattle.bench.specs.declared.requests.Answer.TheVariants.{Stepped, Ran as RunIs, Settled as SettledIs, Imaged, Found}
 use Rattle.bench.specs.Faults.{few_outcomes}
-use Rattle.bench.specs.Chains.{Chain, nothing, then, AnyStep, FirstPlace, logged, Holds, HoldsAlong}
+use Rattle.bench.specs.Chains.{Chain, AnyStep, FirstPlace, logged, Holds, HoldsAlong}
 
 -- How many outcomes a request may want.
 abbrev pub room_of : Request → ℕ

@@ -1,4 +1,5 @@
 //! The bench: one protocol of any kind and the race table beside it.
+#![tactic(auto)]
 
 mod benches;
 mod faults;

@@ -1,5 +1,5 @@
 -- A handover under bus MESI: the rules say only that each call ends at once; the byte and the mark are the guarantee's.
-use Rattle.std.proofs.Common.{◌≡◌, ℕ, Bool, false, [], ◌∷◌, sym, refl, ap, ◌∙◌, subst, arith}
+use Rattle.std.proofs.Common.{◌≡◌, ℕ, Bool, false, [], ◌∷◌, refl, ap, ◌∙◌, subst, arith}
 use Rattle.protocol.specs.declared.steps.Step.{Step}
 use Rattle.protocol.specs.declared.steps.Step.TheVariants.{Load, Store, Acquire, Release}
 use Rattle.protocol.specs.declared.steps.Ended.{Ended}

@@ -1,4 +1,5 @@
 //! The studies with known ends: as facts of the rules, by one computed check over their list.
+#![tactic(auto)]
 
 ghost use Rattle.std.specs.Prelude.{◌≡◌, true, false};
 ghost use Rattle.known_studies.specs.Shown.{all_known};

@@ -1,5 +1,5 @@
 -- What the program prints for a file: the report, or the one line of its fault.
-use Rattle.std.specs.Prelude.{◌≡◌, ℕ, List, ◌++◌, take, Ok, Err, Result}
+use Rattle.std.specs.Prelude.{◌≡◌, ℕ, List, Ok, Err}
 use Rattle.bench.specs.declared.faults.Fault.{Fault}
 use Rattle.printing.specs.Page.{fault_line}
 use Rattle.study_run.specs.Reports.{file_comes_to}

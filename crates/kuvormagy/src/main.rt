@@ -1,4 +1,5 @@
 //! Reads a study file from standard input and prints its report, or the line of its fault.
+#![tactic(auto)]
 
 ghost use Rattle.kuvormagy.specs.Text.{Says};
 

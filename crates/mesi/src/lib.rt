@@ -1,4 +1,5 @@
 //! Bus MESI: a coherence protocol on an atomic bus, where no call waits and no message is on its way.
+#![tactic(auto)]
 
 mod bus;
 mod copies;

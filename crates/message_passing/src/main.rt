@@ -1,4 +1,5 @@
 //! Two cores pass a byte: core 1 reads it too early, which is a race, and then again after core 0 has released and it has acquired.
+#![tactic(auto)]
 
 ghost use Rattle.std.specs.Prelude.{◌≡◌};
 ghost use Rattle.message_passing.specs.Studies.{bus_study, message_study, buffer_study};

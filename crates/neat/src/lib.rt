@@ -1,4 +1,5 @@
 //! The coherence protocol Neat: private lines with write bits, sent to the shared cache at release, acquire and eviction.
+#![tactic(auto)]
 
 mod caches;
 mod core_part;

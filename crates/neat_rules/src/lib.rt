@@ -1,4 +1,5 @@
 //! The rules of the protocol Neat and the proof that they keep the meaning of a protocol.
+#![tactic(auto)]
 
 ghost use Rattle.protocol.specs.Meaning.{Meaning};
 ghost use Rattle.neat_rules.specs.Machine.{neat};

@@ -8,7 +8,7 @@ use Rattle.races.specs.declared.outcomes.Outcome.{Outcome}
 use Rattle.races.specs.declared.table.RaceTable.{RaceTable}
 use Rattle.races.specs.Log.{Log, empty_log}
 use Rattle.races.specs.Table.{start}
-use Rattle.races.specs.Study.{Study, set_up, Watched, Takes}
+use Rattle.races.specs.Study.{set_up, Watched, Takes}
 use Rattle.bench.specs.Chains.{Chain, nothing, AnyStep, logged}
 use Rattle.bench.proofs.Chaining.{chain_more, chain_length}
 use Rattle.bench.proofs.Holding.{holds_along, chain_carries}

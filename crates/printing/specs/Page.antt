@@ -6,7 +6,6 @@ use Rattle.races.specs.declared.outcomes.Outcome.{Outcome}
 use Rattle.races.specs.declared.table.RaceTable.{RaceTable}
 use Rattle.races.specs.Log.{empty_log}
 use Rattle.races.specs.Table.{start}
-use Rattle.races.specs.Study.{Watched}
 use Rattle.bench.specs.declared.faults.Fault.{Fault}
 use Rattle.bench.specs.declared.faults.Cause.TheVariants.{OutputTooShort}
 use Rattle.bench.specs.declared.faults.Layer.TheVariants.{Caller}

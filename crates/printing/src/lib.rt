@@ -1,4 +1,5 @@
 //! Whole studies, printed.
+#![tactic(auto)]
 
 mod faults;
 mod pages;

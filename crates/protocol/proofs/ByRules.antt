@@ -3,10 +3,9 @@ use Rattle.std.proofs.Common.{◌≡◌, ℕ, ◌<◌, false, Some, None, Option
 use Rattle.protocol.specs.declared.steps.Step.{Step}
 use Rattle.protocol.specs.declared.steps.Refusal.{Refusal}
 use Rattle.protocol.specs.declared.steps.Reply.{Reply}
-use Rattle.protocol.specs.declared.steps.Reply.TheVariants.{Refused}
 use Rattle.protocol.specs.Moment.{Moment}
 use Rattle.protocol.specs.Steps.{Fit}
-use Rattle.protocol.specs.Meaning.{Machine, Meaning, Reached, cleared, stepped, Possible, Accepted, Cleared, Bytes, FirstOpen, refused_in}
+use Rattle.protocol.specs.Meaning.{Machine, Meaning, Reached, cleared, stepped, Accepted, Cleared, Bytes, FirstOpen, refused_in}
 use Rattle.protocol.specs.Rules.{unless_refused, guarded, by_rules}
 
 -- What is owed of the rules `act` where a step is not refused.

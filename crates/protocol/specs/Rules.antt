@@ -1,5 +1,5 @@
 -- Protocols whose answers are a function of their state.
-use Rattle.std.specs.Prelude.{◌≡◌, ℕ, Bool, Some, None, Option, Result}
+use Rattle.std.specs.Prelude.{◌≡◌, ℕ, Some, None, Option}
 use Rattle.protocol.specs.declared.steps.Step.{Step}
 use Rattle.protocol.specs.declared.steps.Refusal.{Refusal}
 use Rattle.protocol.specs.declared.steps.Reply.{Reply}

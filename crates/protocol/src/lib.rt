@@ -1,4 +1,5 @@
 //! What every coherence protocol of the bench is: its steps, its answers, and the meaning that it keeps.
+#![tactic(auto)]
 
 mod cells;
 mod interface;

@@ -1,7 +1,7 @@
 -- What holds at one address while no race has ended: who may owe there, who sees the newest store's byte, and when home has it.
-use Rattle.std.proofs.Common.{◌≡◌, ℕ, ◌<◌, ◌≤◌, Bool, true, false, cond, not, ◌&&◌, ◌||◌, eqb, ◌⊎◌, List, [], ◌∷◌, Some, None, Option, sym, refl, ap, ◌∙◌, subst, inl, inr, ⊎_elim}
-use Rattle.std.proofs.lemmas.Bool.{true≢false, false≢true, both_ways, cases_Bool, cases_eq, eqb-true, eqb-false, eq-eqb, ne_eqb, or_cases, or_parts, and_parts, and_cases, not-false, not-true}
-use Rattle.protocol.specs.Moment.{View, Drift, Drifts, stay, drift, StoreLands, Elsewhere, NobodyOwes, Owed}
+use Rattle.std.proofs.Common.{◌≡◌, ℕ, ◌<◌, Bool, true, false, not, ◌&&◌, eqb, ◌⊎◌, Some, None, Option, sym, refl, ap, ◌∙◌, subst, inl, inr, ⊎_elim}
+use Rattle.std.proofs.lemmas.Bool.{true≢false, false≢true, both_ways, cases_Bool, cases_eq, eqb-true, and_cases, not-false}
+use Rattle.protocol.specs.Moment.{View, Drift, Drifts, stay, drift, StoreLands, NobodyOwes}
 use Rattle.races.specs.Races.{Written}
 
 -- No store has ended: nobody owes, and everybody has 00.

@@ -1,13 +1,13 @@
 -- What an ended call that does not race leaves at each address, and what a load that does not race has answered.
-use Rattle.std.proofs.Common.{◌≡◌, ℕ, ◌<◌, ◌≤◌, Bool, true, false, cond, not, ◌&&◌, ◌||◌, eqb, ◌⊎◌, List, [], ◌∷◌, is_some, Some, None, Option, sym, refl, ap, ◌∙◌, subst, inl, inr, ⊎_elim}
-use Rattle.std.proofs.lemmas.Bool.{true≢false, both_ways, cases_Bool, cases_eq, eqb-true, eq-eqb, ne_eqb, or_cases, and_parts, or_right}
+use Rattle.std.proofs.Common.{◌≡◌, ℕ, ◌<◌, Bool, true, false, cond, ◌&&◌, eqb, ◌⊎◌, List, [], ◌∷◌, is_some, Some, None, Option, sym, ap, ◌∙◌, subst, inl, inr, ⊎_elim}
+use Rattle.std.proofs.lemmas.Bool.{both_ways, cases_Bool, cases_eq, eqb-true, eq-eqb, ne_eqb, or_cases, and_parts, or_right}
 use Rattle.protocol.specs.declared.steps.Ended.{Ended}
 use Rattle.protocol.specs.declared.steps.Ended.TheVariants.{Loaded, Stored, Acquired, Released, Evicted}
 use Rattle.protocol.specs.Moment.{View, Drifts, StoreLands}
 use Rattle.protocol.specs.Meaning.{Brings}
-use Rattle.races.specs.Races.{Written, newest, since, released, handed_over, store_at, else_earlier, races, races_with}
+use Rattle.races.specs.Races.{Written, newest, since, released, handed_over, else_earlier, races, races_with}
 use Rattle.races.specs.Guarantee.{expected, byte_written}
-use Rattle.races.proofs.Debts.{Untouched, NewestIs, Right, right_drifts, store_here, store_there, no_race_cases}
+use Rattle.races.proofs.Debts.{NewestIs, Right, right_drifts, store_here, store_there, no_race_cases}
 use Rattle.races.proofs.TableLaw.{InRange}
 
 abbrev has_released : List Ended → Written → Bool

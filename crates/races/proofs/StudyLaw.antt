@@ -1,5 +1,5 @@
 -- What every study keeps, over every protocol that keeps the meaning: one induction over its steps. The guarantee follows.
-use Rattle.std.proofs.Common.{◌≡◌, ℕ, ◌+◌, ◌*◌, ◌<◌, ◌≤◌, Bool, true, false, cond, ◌||◌, eqb, leb, ◌⊎◌, List, [], ◌∷◌, ◌++◌, Some, None, Ok, Err, Option, Result, sym, refl, ap, ◌∙◌, subst, inl, inr, ⊎_elim, arith}
+use Rattle.std.proofs.Common.{◌≡◌, ℕ, ◌+◌, ◌*◌, ◌<◌, ◌≤◌, Bool, true, false, cond, leb, List, [], ◌∷◌, ◌++◌, Some, None, Ok, Err, Option, Result, sym, refl, ap, ◌∙◌, subst, ⊎_elim, arith}
 use Rattle.std.proofs.lemmas.Bool.{cases_eq, eq-eqb, ne_eqb, leb-false, lt-leb, or_parts}
 use Rattle.protocol.specs.declared.steps.Step.{Step}
 use Rattle.protocol.specs.declared.steps.Step.TheVariants.{Load, Store, Acquire, Release, Evict, Move}
@@ -11,12 +11,12 @@ use Rattle.protocol.specs.declared.steps.Reply.{Reply}
 use Rattle.protocol.specs.declared.steps.Reply.TheVariants.{Refused, Waits, Ended as AtOnce, Moved, Finished}
 use Rattle.protocol.specs.Moment.{View, Moment, Drifts}
 use Rattle.protocol.specs.Steps.{call_of, core_of, caller, Fit}
-use Rattle.protocol.specs.Meaning.{Machine, Meaning, Reached, cleared, stepped, Possible, Brings, Begins, Ends, Passes, Finishes, Called, Delivered, Accepted, WaitingBecomes, WaitingStays, Cleared, busy, refused_in, image_of}
-use Rattle.races.specs.Log.{Log, empty_log, feed, becomes, answered, as_ended, pending_ended}
+use Rattle.protocol.specs.Meaning.{Machine, Meaning, Reached, cleared, stepped, Possible, Brings, Begins, Ends, Passes, Finishes, Called, Delivered, Accepted, WaitingBecomes, refused_in}
+use Rattle.races.specs.Log.{Log, feed, becomes, answered, as_ended, pending_ended}
 use Rattle.races.specs.Races.{Written, newest, since, released, handed_over, races, any_race}
 use Rattle.races.specs.Study.{Study, set_up, took}
 use Rattle.races.specs.Guarantee.{Coherent, ImageIs, expected}
-use Rattle.races.proofs.Debts.{Untouched, NewestIs, Right, right_drifts}
+use Rattle.races.proofs.Debts.{Right, right_drifts}
 use Rattle.races.proofs.Endings.{RightAt, right_added, load_answers}
 use Rattle.races.proofs.TableLaw.{InRange, AllInRange}
 

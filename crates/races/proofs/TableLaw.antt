@@ -1,13 +1,12 @@
 -- The race table is a summary of the ended calls: it answers the race rule, and its two numbers are the log's.
-use Rattle.std.proofs.Common.{◌≡◌, ℕ, ◌+◌, ◌<◌, ◌≤◌, min, Bool, true, false, cond, not, ◌&&◌, ◌||◌, eqb, ltb, ◌⊎◌, List, [], ◌∷◌, map, length, get_or, set, replicate, is_some, Some, None, Option, sym, refl, ap, ◌∙◌, subst, inl, inr, ⊎_elim, arith}
-use Rattle.std.proofs.lemmas.List.{get_or-set_same, get_or-set_other, get_or-map, get_or_default, get_or-replicate, length-set, length-map, length-replicate}
+use Rattle.std.proofs.Common.{◌≡◌, ℕ, ◌<◌, Bool, true, false, cond, not, ◌&&◌, ◌||◌, eqb, ltb, ◌⊎◌, List, [], ◌∷◌, map, length, get_or, set, is_some, Some, None, Option, sym, refl, ap, ◌∙◌, subst, inl, inr, ⊎_elim, arith}
+use Rattle.std.proofs.lemmas.List.{get_or-set_same, get_or-set_other, get_or-map, get_or-replicate, length-set, length-map}
 use Rattle.std.proofs.lemmas.Bool.{cases_eq, eq-eqb, ne_eqb, lt-ltb, cases_Bool, true≢false, false≢true, or_parts, or_cases}
 use Rattle.protocol.specs.declared.steps.Ended.{Ended}
 use Rattle.protocol.specs.declared.steps.Ended.TheVariants.{Loaded, Stored, Acquired, Released, Evicted}
 use Rattle.races.specs.declared.table.Newest.{Newest}
-use Rattle.races.specs.declared.table.RaceTable.{RaceTable}
-use Rattle.races.specs.Races.{Written, newest, since, released, handed_over, store_at, else_earlier, races, races_with, any_race, first_race, number, first_number}
-use Rattle.races.specs.Table.{none_yet, stored_by, is_core, released_by, acquired_by, entry_races, storer_races, stores_after, table_races, first_after, noted, start, table_of}
+use Rattle.races.specs.Races.{Written, newest, since, released, handed_over, else_earlier, races, races_with, any_race, first_race, number, first_number}
+use Rattle.races.specs.Table.{none_yet, stored_by, is_core, released_by, acquired_by, entry_races, storer_races, stores_after, table_races, first_after, table_of}
 
 -- What the log says of the newest store to an address.
 abbrev storer_of : Option Written → Option ℕ

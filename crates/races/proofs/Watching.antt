@@ -1,5 +1,5 @@
 -- A bench that marks by its table carries every study on, and its marks are the race rule's.
-use Rattle.std.proofs.Common.{◌≡◌, Bool, List, ◌∷◌, sym, refl, ap, ◌∙◌, subst}
+use Rattle.std.proofs.Common.{◌≡◌, List, sym, refl, ap, ◌∙◌, subst}
 use Rattle.protocol.specs.declared.steps.Step.{Step}
 use Rattle.protocol.specs.declared.steps.Ended.{Ended}
 use Rattle.protocol.specs.declared.steps.Reply.{Reply}
@@ -9,11 +9,10 @@ use Rattle.protocol.specs.Meaning.{Machine, Meaning}
 use Rattle.races.specs.declared.outcomes.Outcome.{Outcome}
 use Rattle.races.specs.declared.table.RaceTable.{RaceTable}
 use Rattle.races.specs.Log.{Log, feed}
-use Rattle.races.specs.Races.{races, number, first_race}
 use Rattle.races.specs.Table.{table_races, table_of, noted, marked, reply_of, mark_of}
-use Rattle.races.specs.Study.{Study, took, Watched, Takes, ends_race}
+use Rattle.races.specs.Study.{took, Watched, Takes, ends_race}
 use Rattle.races.specs.Guarantee.{Counted}
-use Rattle.races.proofs.StudyLaw.{Kept, coherent, study_kept, kept_step, kept_ranges, fed_step, refused_stays, ended_after}
+use Rattle.races.proofs.StudyLaw.{coherent, study_kept, kept_step, kept_ranges, fed_step, refused_stays, ended_after}
 use Rattle.races.proofs.TableLaw.{AllInRange, table_races_is, table_ended_is, table_first_is}
 
 -- The reply is the outcome, its mark apart.

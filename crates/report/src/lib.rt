@@ -1,4 +1,5 @@
 //! The lines of a report.
+#![tactic(auto)]
 
 mod digits;
 mod lines;

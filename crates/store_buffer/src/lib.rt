@@ -1,4 +1,5 @@
 //! A store buffer over any protocol, which is again a protocol.
+#![tactic(auto)]
 
 mod buffer;
 mod queue;

@@ -1,4 +1,5 @@
 //! The file of a study: its reader, the plan made of its records, and its writer.
+#![tactic(auto)]
 
 mod codes;
 mod plans;

@@ -1,11 +1,9 @@
 -- What is printed is computed by the rules of the protocol.
-use Rattle.std.proofs.Common.{◌≡◌, ℕ, ◌<◌, ◌≤◌, Bool, true, false, cond, ltb, List, ◌++◌, length, drop, Ok, Err, Result, sym, refl, ap, ◌∙◌, subst, arith}
+use Rattle.std.proofs.Common.{◌≡◌, ℕ, Bool, cond, List, ◌++◌, length, drop, Ok, Err, Result, sym, ap, ◌∙◌, arith}
 use Rattle.std.proofs.lemmas.Bool.{lt-ltb, le-ltb}
 use Rattle.protocol.specs.declared.steps.Step.{Step}
 use Rattle.protocol.specs.declared.steps.Reply.{Reply}
 use Rattle.protocol.specs.Meaning.{Machine}
-use Rattle.races.specs.declared.outcomes.Outcome.{Outcome}
-use Rattle.races.specs.declared.table.RaceTable.{RaceTable}
 use Rattle.races.specs.Table.{start}
 use Rattle.bench.specs.declared.faults.Fault.{Fault}
 use Rattle.bench.specs.Computed.{Follows, state_after, table_after, outcomes_of}
@@ -17,7 +15,7 @@ use Rattle.buffer_rules.specs.Buffered.{Pile, buffered, buffer_step, ByFunction}
 use Rattle.buffer_rules.proofs.ByFunction.{buffered_by_function}
 use Rattle.study_file.specs.declared.codes.Code.{Code}
 use Rattle.study_file.specs.declared.codes.Code.TheVariants.{Neat, Mesi, BufferedNeat, BufferedMesi}
-use Rattle.study_run.specs.Reports.{report_under, report_by, heading_of, neat_step, mesi_step, neat_home, mesi_home, over, placed, plan_comes_to, machine_of}
+use Rattle.study_run.specs.Reports.{report_under, heading_of, neat_step, mesi_step, over, placed, plan_comes_to, machine_of}
 
 module _ (M : Machine) (f : M.State → Step → Reply × M.State) (first : M.State) (follows : Follows M f) (begins : (s : M.State) → M.fresh s → s ≡ first) where
   -- A printed page is the computed one.

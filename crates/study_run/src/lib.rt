@@ -1,4 +1,5 @@
 //! Runs a study file: the report of the study that it asks for.
+#![tactic(auto)]
 
 ghost use Rattle.std.specs.Prelude.{◌≡◌};
 ghost use Rattle.printing.specs.Page.{Prints};

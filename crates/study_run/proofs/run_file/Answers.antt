@@ -1,5 +1,5 @@
 -- The report is that of the plan that was read.
-use Rattle.std.proofs.Common.{◌≡◌, ℕ, List, Ok, Err, Result, sym, ap, ◌∙◌, subst}
+use Rattle.std.proofs.Common.{List, Ok, Result, sym, ap, ◌∙◌, subst}
 use Rattle.protocol.specs.declared.steps.Step.{Step}
 use Rattle.bench.specs.declared.faults.Fault.{Fault}
 use Rattle.printing.specs.Page.{Prints}

@@ -1,5 +1,5 @@
 -- The page, piece by piece.
-use Rattle.std.proofs.Common.{◌≡◌, ◌+◌, ◌*◌, ◌≤◌, length, refl, ap, ◌∙◌, arith}
+use Rattle.std.proofs.Common.{◌∙◌, arith}
 use Rattle.report.specs.Lines.{ended_line}
 use Rattle.printing.proofs.Filling.{page_done}
 use Rattle.printing.proofs.pages.print_study.Goals as goal

@@ -1,5 +1,5 @@
 -- Each entry before the index has been changed, and the rest is as it was.
-use Rattle.std.proofs.Common.{◌≡◌, ◌++◌, map, length, take, drop}
+use Rattle.std.proofs.Common.{◌≡◌, ◌++◌, map, take, drop}
 use Rattle.races.specs.Table.{acquired_by}
 use Rattle.races.proofs.table.acquire.Given as goal
 

@@ -1,7 +1,6 @@
 -- There is room for each request, and each turn answers one.
-use Rattle.std.proofs.Common.{◌≡◌, ◌+◌, ◌-◌, ◌≤◌, true, leb, length, sym, refl, ◌∙◌, arith, rules}
+use Rattle.std.proofs.Common.{◌+◌, ◌-◌, sym, refl, ◌∙◌, arith, rules}
 use Rattle.std.proofs.lemmas.Bool.{leb-true, true≢false}
-use Rattle.bench.specs.Requests.{rooms_of}
 use Rattle.bench.proofs.StudyLoop.{far_none, far_more, room_left, study_done}
 use Rattle.bench.proofs.benches.Bench.study.Goals as goal
 

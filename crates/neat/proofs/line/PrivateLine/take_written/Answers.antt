@@ -1,6 +1,6 @@
 use Rattle.std.proofs.Common.{◌≡◌, ℕ, ◌<◌, Bool, true, false, cond, not, List, Some, None, Option, sym, ap, ◌∙◌, arith}
 use Rattle.std.proofs.lemmas.Bool.{ne_eqb}
-use Rattle.neat_rules.specs.State.{Block, Line, I, V, clean, dirty}
+use Rattle.neat_rules.specs.State.{Block, Line, I, V, clean}
 use Rattle.neat.specs.Blocks.{as_bytes, as_block}
 use Rattle.neat.specs.Lines.{taken}
 use Rattle.neat.proofs.Bits.{dirty_mask, no_bits}
