@@ -69,34 +69,43 @@ fetched_is : (line l : List ℕ) (held : Bool) → l ≡ line → CopyOf line (f
 fetched_is line l true e = e
 fetched_is line l false e = e
 
+-- What is used of the two rules by which a row changes its bytes. The protocol gives it where it gives its law, so that a rule that says
+-- something else is refused there.
+pub record RowEquations : Type 0 where
+  pub flush : (r : LineRow) → flushed r ≡ record { copies = r.copies; llc = home_line r }
+  pub finish : (r : LineRow) (c : ℕ) (line : List ℕ) → finished r c line ≡ record { copies = slice_set (replicate 8 Invalid) c (Modified line); llc = r.llc }
+
 -- A core that takes the line has it, and the others keep it.
-fetched_whole : (line : List ℕ) (r : LineRow) (c : ℕ) → Whole line r → Whole line (taken (flushed r) c)
-fetched_whole line r c h =
-    let same : All (CopyOf line) (taken (flushed r) c).copies =
+taken_whole : (line : List ℕ) (r : LineRow) (c : ℕ) → Whole line r → Whole line (taken (record { copies = r.copies; llc = home_line r }) c)
+taken_whole line r c h =
+    let same : All (CopyOf line) (taken (record { copies = r.copies; llc = home_line r }) c).copies =
     All-set (CopyOf line) (map downgraded r.copies) c (fetched (some holds r.copies) (home_line r))
     (fetched_is line (home_line r) (some holds r.copies) h.home)
     (All-map (CopyOf line) downgraded r.copies (All-weaker (CopyOf line) (λ x. CopyOf line (downgraded x)) (downgraded_is line) r.copies h.same)) in
     record {
-      home = in_llc line (home_line r) (taken (flushed r) c).copies h.home same;
+      home = in_llc line (home_line r) (taken (record { copies = r.copies; llc = home_line r }) c).copies h.home same;
       same = same;
     }
 
+fetched_whole : RowEquations → (line : List ℕ) (r : LineRow) (c : ℕ) → Whole line r → Whole line (taken (flushed r) c)
+fetched_whole q line r c h = subst (λ (x : LineRow). Whole line (taken x c)) (sym (q.flush r)) (taken_whole line r c h)
+
 -- What goes over the bus leaves the line as it is.
-transacted_by : (line : List ℕ) (x : PrivateLine) (k : Call) (r : LineRow) (c : ℕ) → CopyOf line x → Whole line r → Whole line (transaction x k r c)
-transacted_by line Invalid Load r c e h = fetched_whole line r c h
-transacted_by line Invalid Store r c e h = fetched_whole line r c h
-transacted_by line Invalid Evict r c e h = h
-transacted_by line (Shared d) k r c e h = h
-transacted_by line (Exclusive d) k r c e h = h
-transacted_by line (Modified d) Load r c e h = h
-transacted_by line (Modified d) Store r c e h = h
-transacted_by line (Modified d) Evict r c e h = record { home = in_llc line d r.copies e h.same; same = h.same }
+transacted_by : RowEquations → (line : List ℕ) (x : PrivateLine) (k : Call) (r : LineRow) (c : ℕ) → CopyOf line x → Whole line r → Whole line (transaction x k r c)
+transacted_by q line Invalid Load r c e h = fetched_whole q line r c h
+transacted_by q line Invalid Store r c e h = fetched_whole q line r c h
+transacted_by q line Invalid Evict r c e h = h
+transacted_by q line (Shared d) k r c e h = h
+transacted_by q line (Exclusive d) k r c e h = h
+transacted_by q line (Modified d) Load r c e h = h
+transacted_by q line (Modified d) Store r c e h = h
+transacted_by q line (Modified d) Evict r c e h = record { home = in_llc line d r.copies e h.same; same = h.same }
 
-transacted_whole : (line : List ℕ) (r : LineRow) (c : ℕ) (k : Call) → Whole line r → Whole line (transacted r c k)
-transacted_whole line r c k h = transacted_by line (copy_at r c) k r c (own_copy line r c h) h
+transacted_whole : RowEquations → (line : List ℕ) (r : LineRow) (c : ℕ) (k : Call) → Whole line r → Whole line (transacted r c k)
+transacted_whole q line r c k h = transacted_by q line (copy_at r c) k r c (own_copy line r c h) h
 
-pub loaded_whole : (line : List ℕ) (r : LineRow) (c : ℕ) → Whole line r → Whole line (loaded r c)
-loaded_whole line r c h = transacted_whole line r c Load h
+pub loaded_whole : RowEquations → (line : List ℕ) (r : LineRow) (c : ℕ) → Whole line r → Whole line (loaded r c)
+loaded_whole q line r c h = transacted_whole q line r c Load h
 
 -- The one M copy is at home.
 modified_set : (llc line : List ℕ) (n c : ℕ) → c < n → modified_or llc (slice_set (replicate n Invalid) c (Modified line)) ≡ line
@@ -105,17 +114,18 @@ modified_set llc line (suc n) zero h = refl
 modified_set llc line (suc n) (suc c) h = modified_set llc line n c (omega arith)
 
 -- After a store the one copy is the written line.
-finished_whole : (line : List ℕ) (r : LineRow) (c : ℕ) → c < 8 → Whole line (finished r c line)
-finished_whole line r c h =
-    record {
+finished_whole : RowEquations → (line : List ℕ) (r : LineRow) (c : ℕ) → c < 8 → Whole line (finished r c line)
+finished_whole q line r c h =
+    subst (Whole line) (sym (q.finish r c line))
+    (record {
       home = modified_set r.llc line 8 c h;
       same = All-set (CopyOf line) (replicate 8 Invalid) c (Modified line) refl (all_replicate (CopyOf line) 8 Invalid tt);
-    }
+    })
 
-pub stored_whole : (line : List ℕ) (r : LineRow) (c o b : ℕ) → c < 8 → Whole line r → Whole (slice_set line o b) (stored r c o b)
-stored_whole line r c o b lt h =
-    let seen : seen_line (transacted r c Store) c ≡ line = seen_whole line (transacted r c Store) c (transacted_whole line r c Store h) in
-    subst (λ (l : List ℕ). Whole (slice_set line o b) (finished (transacted r c Store) c (slice_set l o b))) (sym seen) (finished_whole (slice_set line o b) (transacted r c Store) c lt)
+pub stored_whole : RowEquations → (line : List ℕ) (r : LineRow) (c o b : ℕ) → c < 8 → Whole line r → Whole (slice_set line o b) (stored r c o b)
+stored_whole q line r c o b lt h =
+    let seen : seen_line (transacted r c Store) c ≡ line = seen_whole line (transacted r c Store) c (transacted_whole q line r c Store h) in
+    subst (λ (l : List ℕ). Whole (slice_set line o b) (finished (transacted r c Store) c (slice_set l o b))) (sym seen) (finished_whole q (slice_set line o b) (transacted r c Store) c lt)
 
 -- The LLC's line after the evict of a copy.
 abbrev left_llc : List ℕ → PrivateLine → List ℕ

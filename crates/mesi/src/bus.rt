@@ -1,6 +1,6 @@
 //! The protocol: a row for each of the eight lines.
 
-ghost use Rattle.std.specs.Prelude.{◌≡◌};
+ghost use Rattle.std.specs.Prelude.{◌≡◌, refl};
 ghost use Rattle.mesi.specs.Bus.{state_of, start, home_byte, load_leaves, load_answers, store_leaves, evict_leaves, mesi_machine};
 ghost use Rattle.mesi.specs.Law;
 
@@ -59,7 +59,7 @@ impl Protocol for Mesi {
 
     ghost state = { state_of };
 
-    ghost keeps = { Law.keeps };
+    ghost keeps = { Law.keeps (record { rows = record { flush = λ _. refl; finish = λ _ _ _. refl }; sees = λ _ _ _. refl; due = λ _. refl }) };
 
     fn clear(&mut self) {
         *self = Mesi::new();
