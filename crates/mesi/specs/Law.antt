@@ -1,7 +1,7 @@
 -- The rules keep the meaning: every core always sees home, a store changes home at one address, and nothing else does.
 use Rattle.std.specs.Prelude.{◌≡◌, ℕ, ◌<◌, Bool, true, false, cond, ◌&&◌, ◌≢◌, List, length, replicate, Some, None, Option, ◌==◌, nat_le, slice_index, slice_set, refl}
 use Rattle.std.proofs.Common.{sym, ap, subst, ◌∙◌, inr, ⊎_elim, arith}
-use Rattle.std.specs.List.{AllByRecursion as All}
+use Rattle.std.specs.List.{AllByRecursion}
 use Rattle.std.proofs.lemmas.List.{length-set, get_or-set_same, get_or-set_other}
 use Rattle.std.proofs.ByRecursion.{All-set}
 use Rattle.std.proofs.lemmas.Bool.{false≢true, leb-false, eqb-true, eq-eqb, cases_eq, cases_Bool, and_parts, and_from, cond-true, cond-false, both_ways}
@@ -18,17 +18,17 @@ use Rattle.protocol.proofs.ByRules.{Kept, keeps_meaning}
 use Rattle.mesi.specs.declared.copies.PrivateLine.TheVariants.{Invalid}
 use Rattle.mesi.specs.Rows.{LineRow, cleared_row, home_line, home_at, seen_at, loaded, stored, evicted}
 use Rattle.mesi.specs.Bus.{State, start, row_at, row_of_address, load_leaves, load_answers, store_leaves, evict_leaves, act, moment, seen_byte, mesi_machine}
-use Rattle.mesi.specs.Whole.{all_at, all_replicate, CopyOf, Whole, RowEquations, seen_whole, loaded_whole, stored_whole, evicted_whole}
+use Rattle.mesi.specs.Whole.{all_at, all_replicate, CopyOf, Whole, RowFacts, seen_whole, loaded_whole, stored_whole, evicted_whole}
 
 -- A row has one line of eight bytes: it is at home, and every copy is that line.
 record Sound (r : LineRow) : Type 0 where
   line : List ℕ
   long : length line ≡ 8
-  bytes : All (λ b. b < 256) line
+  bytes : AllByRecursion (λ b. b < 256) line
   whole : Whole line r
 
 -- What holds of every state that is reached.
-record Inv (s : State) : Type 0 where
+pub record Inv (s : State) : Type 0 where
   lines : length s ≡ 8
   sound : (l : ℕ) → Sound (row_at s l)
 
@@ -52,17 +52,18 @@ inv_set s l r lt i h =
           (cases_eq k l);
     }
 
--- What the law uses of the rules, beside what it computes. The protocol gives it where it gives its law.
-pub record Equations : Type 0 where
-  pub rows : RowEquations
-  pub sees : (s : State) (c a : ℕ) → (moment s).view.sees c a ≡ seen_byte s c a
-  pub due : (s : State) → (moment s).due ≡ 0
+-- The facts of the rules that the law stands on.
+pub record Facts : Type 0 where
+  pub rows : RowFacts
+  -- every core sees home
+  pub sees : (s : State) → Inv s → (c a : ℕ) → (view s).sees c a ≡ (view s).home a
+  -- nothing is due after a clear
+  pub due : (moment start).due ≡ 0
 
--- Every core sees home.
-sees_home : Equations → (s : State) → Inv s → (c a : ℕ) → (view s).sees c a ≡ (view s).home a
-sees_home q s i c a =
+-- A core that sees its own copy, or home where it has none, sees home.
+pub sees_home : (s : State) → Inv s → (c a : ℕ) → seen_byte s c a ≡ (view s).home a
+sees_home s i c a =
     let h = i.sound (line_of a) in
-    q.sees s c a ∙
     ap (λ (x : List ℕ). slice_index x (offset_of a)) (seen_whole h.line (row_of_address s a) c h.whole ∙ sym h.whole.home)
 
 -- Home after a row was changed: at that row's line, and elsewhere.
@@ -80,7 +81,7 @@ home_kept s l r lt i e a =
     (cases_eq (line_of a) l)
 
 -- A drift to a state where every core sees home and nobody owes.
-settles : Equations → (m : View) (t : State) → Inv t
+settles : Facts → (m : View) (t : State) → Inv t
     → ((a : ℕ) → a < 64 → NobodyOwes m a → (view t).home a ≡ m.home a)
     → ((a : ℕ) → a < 64 → Owed m a → (c : ℕ) × (c < 8) × (m.owes c a ≡ true) × ((view t).home a ≡ m.sees c a))
     → Drift m (view t)
@@ -90,17 +91,17 @@ settles q m t i stays taken =
       home_stays = stays;
       home_taken = λ a lt o _. taken a lt o;
       debtor_sees = λ c a _ _ e. absurd (false≢true e);
-      other_sees = λ c a _ _ _. inr (sees_home q t i c a);
+      other_sees = λ c a _ _ _. inr (q.sees t i c a);
     }
 
-quiet : Equations → (s t : State) → Inv t → ((a : ℕ) → (view t).home a ≡ (view s).home a) → Drifts (view s) (view t)
+quiet : Facts → (s t : State) → Inv t → ((a : ℕ) → (view t).home a ≡ (view s).home a) → Drifts (view s) (view t)
 quiet q s t i e = drift stay (settles q (view s) t i (λ a _ _. e a) (λ a _ o. absurd (false≢true o.2)))
 
 -- A row that changed and kept its line, by a load or an evict.
 sound_kept : (s : State) (l : ℕ) (r : LineRow) → (i : Inv s) → Whole (i.sound l).line r → Sound r
 sound_kept s l r i w = record { line = (i.sound l).line; long = (i.sound l).long; bytes = (i.sound l).bytes; whole = w }
 
-quiet_row : Equations → (s : State) (l : ℕ) (r : LineRow) → l < 8 → (i : Inv s) → Whole (i.sound l).line r → Drifts (view s) (view (slice_set s l r))
+quiet_row : Facts → (s : State) (l : ℕ) (r : LineRow) → l < 8 → (i : Inv s) → Whole (i.sound l).line r → Drifts (view s) (view (slice_set s l r))
 quiet_row q s l r lt i w =
     quiet q s (slice_set s l r) (inv_set s l r lt i (sound_kept s l r i w)) (home_kept s l r lt i (w.home ∙ sym (i.sound l).whole.home))
 
@@ -129,7 +130,7 @@ lands s c a b =
     }
 
 -- A store of byte b by core c at address a, in line l.
-module _ (q : Equations) (s : State) (i : Inv s) (c a b : ℕ) (core : c < 8) (address : a < 64) (byte : b < 256) where
+module _ (q : Facts) (s : State) (i : Inv s) (c a b : ℕ) (core : c < 8) (address : a < 64) (byte : b < 256) where
   abbrev l : ℕ
   l = line_of a
 
@@ -197,15 +198,16 @@ within n x e o h = by (nat_le n x) refl h
 ends : (k : Step) (e : Ended) (s t : State) → call_of e ≡ k → Brings e (view s) (view t) → Ends k e (moment s) (moment t)
 ends k e s t same brings = record { same = same; brings = brings; waiting = λ _ _. refl; paid = omega arith }
 
-steps : Equations → (s : State) (k : Step) → Inv s → Fit k → refused_in (moment s) k ≡ None → Kept moment Inv s k (act s k).0 (act s k).1
+steps : Facts → (s : State) (k : Step) → Inv s → Fit k → refused_in (moment s) k ≡ None → Kept moment Inv s k (act s k).0 (act s k).1
 steps q s (Load c a) i f h =
     let lt : line_of a < 8 = omega (arith, (within 64 a _ _ (within 8 c _ _ h).1).0) in
     let r = loaded (row_of_address s a) c in
     let w = loaded_whole q.rows (i.sound (line_of a)).line (row_of_address s a) c (i.sound (line_of a)).whole in
+    let t = inv_set s (line_of a) r lt i (sound_kept s (line_of a) r i w) in
     record {
-      again = inv_set s (line_of a) r lt i (sound_kept s (line_of a) r i w);
+      again = t;
       accepted = ends (Load c a) (Loaded c a (load_answers s c a)) s (load_leaves s c a) refl
-          (quiet_row q s (line_of a) r lt i w, ap (λ (x : LineRow). seen_at x c (offset_of a)) (sym (row_same s (line_of a) r lt i)) ∙ sym (q.sees (load_leaves s c a) c a));
+          (quiet_row q s (line_of a) r lt i w, ap (λ (x : LineRow). seen_at x c (offset_of a)) (sym (row_same s (line_of a) r lt i)) ∙ sees_home (load_leaves s c a) t c a ∙ sym (q.sees (load_leaves s c a) t c a));
       reach = refl;
     }
 steps q s (Store c a b) i f h =
@@ -216,7 +218,7 @@ steps q s (Store c a b) i f h =
       accepted = ends (Store c a b) (Stored c a b) s (store_leaves s c a b) refl (store_brings q s i c a b core address f.2);
       reach = refl;
     }
-steps q s (Acquire c) i f h = record { again = i; accepted = ends (Acquire c) (Acquired c) s s refl (stay, λ a _ _. sees_home q s i c a); reach = refl }
+steps q s (Acquire c) i f h = record { again = i; accepted = ends (Acquire c) (Acquired c) s s refl (stay, λ a _ _. q.sees s i c a); reach = refl }
 steps q s (Release c) i f h = record { again = i; accepted = ends (Release c) (Released c) s s refl (stay, λ a _. refl); reach = refl }
 steps q s (Evict c l) i f h =
     let lt : l < 8 = (within 8 l _ _ (within 8 c _ _ h).1).0 in
@@ -254,22 +256,22 @@ home_byte s i a =
     let h = i.sound (line_of a) in
     subst (λ (x : List ℕ). slice_index x (offset_of a) < 256) (sym h.whole.home) (all_at (λ b. b < 256) h.line (offset_of a) 0 (omega arith) h.bytes)
 
-pub keeps : Equations → Meaning mesi_machine
+pub keeps : Facts → Meaning mesi_machine
 keeps q =
     keeps_meaning
     (record {
       starts = starts;
       clear =
           record {
-            sees_zero = λ c a _ _. sees_home q start starts c a ∙ home_starts a;
+            sees_zero = λ c a _ _. q.sees start starts c a ∙ home_starts a;
             home_zero = λ a _. home_starts a;
             no_debt = λ _ _ _ _. refl;
             no_wait = λ _ _. refl;
             none_open = λ _ _. refl;
-            due_zero = q.due start;
+            due_zero = q.due;
           };
       step = steps q;
       idle = λ _ _ _ _ _. refl;
-      bytes = λ s i. record { seen = λ c a _ _. subst (λ (x : ℕ). x < 256) (sym (sees_home q s i c a)) (home_byte s i a); at_home = λ a _. home_byte s i a };
+      bytes = λ s i. record { seen = λ c a _ _. subst (λ (x : ℕ). x < 256) (sym (q.sees s i c a)) (home_byte s i a); at_home = λ a _. home_byte s i a };
       next_is = λ _ _ _ _ _ _. refl;
     })

@@ -1,7 +1,7 @@
 -- A row whose copies all have one line: what the bus does keeps them so, and a store changes that line at one offset.
 use Rattle.std.specs.Prelude.{◌≡◌, ℕ, zero, suc, ◌<◌, Bool, true, false, List, [], ◌∷◌, map, replicate, slice_index_or, slice_set, refl}
 use Rattle.std.proofs.Common.{sym, ap, subst, ◌∙◌, arith}
-use Rattle.std.specs.List.{AllByRecursion as All}
+use Rattle.std.specs.List.{AllByRecursion}
 use Rattle.std.proofs.ByRecursion.{All-set, All-map, All-weaker}
 use Rattle.mesi.specs.declared.copies.PrivateLine.{PrivateLine}
 use Rattle.mesi.specs.declared.copies.PrivateLine.TheVariants.{Invalid, Shared, Exclusive, Modified}
@@ -11,13 +11,13 @@ use Rattle.mesi.specs.Copies.{holds, downgraded, held_or, fetched, some, modifie
 use Rattle.mesi.specs.Rows.{LineRow, copy_at, home_line, seen_line, flushed, taken, transaction, transacted, finished, loaded, stored, evicted}
 
 -- What holds of the default and of each element holds of each place.
-pub all_at : {X : Type 0} (P : X → Type 0) (xs : List X) (i : ℕ) (d : X) → P d → All P xs → P (slice_index_or xs i d)
+pub all_at : {X : Type 0} (P : X → Type 0) (xs : List X) (i : ℕ) (d : X) → P d → AllByRecursion P xs → P (slice_index_or xs i d)
 all_at P [] i d p h = p
 all_at P (x ∷ xs) zero d p h = h.0
 all_at P (x ∷ xs) (suc i) d p h = all_at P xs i d p h.1
 
 -- What holds of one value holds of each of its repetitions.
-pub all_replicate : {X : Type 0} (P : X → Type 0) (n : ℕ) (x : X) → P x → All P (replicate n x)
+pub all_replicate : {X : Type 0} (P : X → Type 0) (n : ℕ) (x : X) → P x → AllByRecursion P (replicate n x)
 all_replicate P zero x p = tt
 all_replicate P (suc n) x p = (p, all_replicate P n x p)
 
@@ -31,7 +31,7 @@ CopyOf line (Modified d) = d ≡ line
 -- The line is at home, and every copy is that line.
 pub record Whole (line : List ℕ) (r : LineRow) : Type 0 where
   pub home : home_line r ≡ line
-  pub same : All (CopyOf line) r.copies
+  pub same : AllByRecursion (CopyOf line) r.copies
 
 -- Each core's copy is the line.
 own_copy : (line : List ℕ) (r : LineRow) (c : ℕ) → Whole line r → CopyOf line (copy_at r c)
@@ -49,14 +49,14 @@ seen_whole line r c h =
     ap (λ (l : List ℕ). held_or l (copy_at r c)) h.home ∙ held_is line (copy_at r c) (own_copy line r c h)
 
 -- With the line in the LLC too, it is at home.
-modified_same : (line : List ℕ) (xs : List PrivateLine) → All (CopyOf line) xs → modified_or line xs ≡ line
+modified_same : (line : List ℕ) (xs : List PrivateLine) → AllByRecursion (CopyOf line) xs → modified_or line xs ≡ line
 modified_same line [] h = refl
 modified_same line (Invalid ∷ xs) h = modified_same line xs h.1
 modified_same line (Shared d ∷ xs) h = modified_same line xs h.1
 modified_same line (Exclusive d ∷ xs) h = modified_same line xs h.1
 modified_same line (Modified d ∷ xs) h = h.0
 
-in_llc : (line l : List ℕ) (xs : List PrivateLine) → l ≡ line → All (CopyOf line) xs → modified_or l xs ≡ line
+in_llc : (line l : List ℕ) (xs : List PrivateLine) → l ≡ line → AllByRecursion (CopyOf line) xs → modified_or l xs ≡ line
 in_llc line l xs e h = ap (λ (m : List ℕ). modified_or m xs) e ∙ modified_same line xs h
 
 downgraded_is : (line : List ℕ) (x : PrivateLine) → CopyOf line x → CopyOf line (downgraded x)
@@ -69,16 +69,18 @@ fetched_is : (line l : List ℕ) (held : Bool) → l ≡ line → CopyOf line (f
 fetched_is line l true e = e
 fetched_is line l false e = e
 
--- What is used of the two rules by which a row changes its bytes. The protocol gives it where it gives its law, so that a rule that says
--- something else is refused there.
-pub record RowEquations : Type 0 where
-  pub flush : (r : LineRow) → flushed r ≡ record { copies = r.copies; llc = home_line r }
-  pub finish : (r : LineRow) (c : ℕ) (line : List ℕ) → finished r c line ≡ record { copies = slice_set (replicate 8 Invalid) c (Modified line); llc = r.llc }
+-- The two facts of the rules by which a row changes its bytes. The protocol gives them where it gives its law, so that a rule of which they
+-- do not hold is refused there.
+pub record RowFacts : Type 0 where
+  -- a core that takes the line has it, and the others keep it
+  pub take : (line : List ℕ) (r : LineRow) (c : ℕ) → Whole line r → Whole line (taken (flushed r) c)
+  -- after a store the one copy is the written line
+  pub finish : (line : List ℕ) (r : LineRow) (c : ℕ) → c < 8 → Whole line (finished r c line)
 
--- A core that takes the line has it, and the others keep it.
-taken_whole : (line : List ℕ) (r : LineRow) (c : ℕ) → Whole line r → Whole line (taken (record { copies = r.copies; llc = home_line r }) c)
-taken_whole line r c h =
-    let same : All (CopyOf line) (taken (record { copies = r.copies; llc = home_line r }) c).copies =
+-- They hold where what is taken is home, and where a store leaves M.
+pub fetched_whole : (line : List ℕ) (r : LineRow) (c : ℕ) → Whole line r → Whole line (taken (record { copies = r.copies; llc = home_line r }) c)
+fetched_whole line r c h =
+    let same : AllByRecursion (CopyOf line) (taken (record { copies = r.copies; llc = home_line r }) c).copies =
     All-set (CopyOf line) (map downgraded r.copies) c (fetched (some holds r.copies) (home_line r))
     (fetched_is line (home_line r) (some holds r.copies) h.home)
     (All-map (CopyOf line) downgraded r.copies (All-weaker (CopyOf line) (λ x. CopyOf line (downgraded x)) (downgraded_is line) r.copies h.same)) in
@@ -87,13 +89,10 @@ taken_whole line r c h =
       same = same;
     }
 
-fetched_whole : RowEquations → (line : List ℕ) (r : LineRow) (c : ℕ) → Whole line r → Whole line (taken (flushed r) c)
-fetched_whole q line r c h = subst (λ (x : LineRow). Whole line (taken x c)) (sym (q.flush r)) (taken_whole line r c h)
-
 -- What goes over the bus leaves the line as it is.
-transacted_by : RowEquations → (line : List ℕ) (x : PrivateLine) (k : Call) (r : LineRow) (c : ℕ) → CopyOf line x → Whole line r → Whole line (transaction x k r c)
-transacted_by q line Invalid Load r c e h = fetched_whole q line r c h
-transacted_by q line Invalid Store r c e h = fetched_whole q line r c h
+transacted_by : RowFacts → (line : List ℕ) (x : PrivateLine) (k : Call) (r : LineRow) (c : ℕ) → CopyOf line x → Whole line r → Whole line (transaction x k r c)
+transacted_by q line Invalid Load r c e h = q.take line r c h
+transacted_by q line Invalid Store r c e h = q.take line r c h
 transacted_by q line Invalid Evict r c e h = h
 transacted_by q line (Shared d) k r c e h = h
 transacted_by q line (Exclusive d) k r c e h = h
@@ -101,10 +100,10 @@ transacted_by q line (Modified d) Load r c e h = h
 transacted_by q line (Modified d) Store r c e h = h
 transacted_by q line (Modified d) Evict r c e h = record { home = in_llc line d r.copies e h.same; same = h.same }
 
-transacted_whole : RowEquations → (line : List ℕ) (r : LineRow) (c : ℕ) (k : Call) → Whole line r → Whole line (transacted r c k)
+transacted_whole : RowFacts → (line : List ℕ) (r : LineRow) (c : ℕ) (k : Call) → Whole line r → Whole line (transacted r c k)
 transacted_whole q line r c k h = transacted_by q line (copy_at r c) k r c (own_copy line r c h) h
 
-pub loaded_whole : RowEquations → (line : List ℕ) (r : LineRow) (c : ℕ) → Whole line r → Whole line (loaded r c)
+pub loaded_whole : RowFacts → (line : List ℕ) (r : LineRow) (c : ℕ) → Whole line r → Whole line (loaded r c)
 loaded_whole q line r c h = transacted_whole q line r c Load h
 
 -- The one M copy is at home.
@@ -113,19 +112,17 @@ modified_set llc line zero c h = absurd (omega arith)
 modified_set llc line (suc n) zero h = refl
 modified_set llc line (suc n) (suc c) h = modified_set llc line n c (omega arith)
 
--- After a store the one copy is the written line.
-finished_whole : RowEquations → (line : List ℕ) (r : LineRow) (c : ℕ) → c < 8 → Whole line (finished r c line)
-finished_whole q line r c h =
-    subst (Whole line) (sym (q.finish r c line))
-    (record {
+pub finished_whole : (line : List ℕ) (r : LineRow) (c : ℕ) → c < 8 → Whole line (record { copies = slice_set (replicate 8 Invalid) c (Modified line); llc = r.llc })
+finished_whole line r c h =
+    record {
       home = modified_set r.llc line 8 c h;
       same = All-set (CopyOf line) (replicate 8 Invalid) c (Modified line) refl (all_replicate (CopyOf line) 8 Invalid tt);
-    })
+    }
 
-pub stored_whole : RowEquations → (line : List ℕ) (r : LineRow) (c o b : ℕ) → c < 8 → Whole line r → Whole (slice_set line o b) (stored r c o b)
+pub stored_whole : RowFacts → (line : List ℕ) (r : LineRow) (c o b : ℕ) → c < 8 → Whole line r → Whole (slice_set line o b) (stored r c o b)
 stored_whole q line r c o b lt h =
     let seen : seen_line (transacted r c Store) c ≡ line = seen_whole line (transacted r c Store) c (transacted_whole q line r c Store h) in
-    subst (λ (l : List ℕ). Whole (slice_set line o b) (finished (transacted r c Store) c (slice_set l o b))) (sym seen) (finished_whole q (slice_set line o b) (transacted r c Store) c lt)
+    subst (λ (l : List ℕ). Whole (slice_set line o b) (finished (transacted r c Store) c (slice_set l o b))) (sym seen) (q.finish (slice_set line o b) (transacted r c Store) c lt)
 
 -- The LLC's line after the evict of a copy.
 abbrev left_llc : List ℕ → PrivateLine → List ℕ
@@ -135,7 +132,7 @@ left_llc llc (Exclusive d) = llc
 left_llc llc (Modified d) = d
 
 -- A copy that leaves is in the LLC, if it was the one at home.
-modified_left : (line llc : List ℕ) (xs : List PrivateLine) (c : ℕ) → All (CopyOf line) xs → modified_or llc xs ≡ line → modified_or (left_llc llc (slice_index_or xs c Invalid)) (slice_set xs c Invalid) ≡ line
+modified_left : (line llc : List ℕ) (xs : List PrivateLine) (c : ℕ) → AllByRecursion (CopyOf line) xs → modified_or llc xs ≡ line → modified_or (left_llc llc (slice_index_or xs c Invalid)) (slice_set xs c Invalid) ≡ line
 modified_left line llc [] c h e = e
 modified_left line llc (Invalid ∷ xs) zero h e = e
 modified_left line llc (Shared d ∷ xs) zero h e = e

@@ -3,6 +3,7 @@
 ghost use Rattle.std.specs.Prelude.{◌≡◌, refl};
 ghost use Rattle.mesi.specs.Bus.{state_of, start, home_byte, load_leaves, load_answers, store_leaves, evict_leaves, mesi_machine};
 ghost use Rattle.mesi.specs.Law;
+ghost use Rattle.mesi.specs.Whole;
 
 use crate::rows::Row;
 use protocol::{Address, Core, Ended, Line, Protocol, Refusal, Reply};
@@ -59,7 +60,7 @@ impl Protocol for Mesi {
 
     ghost state = { state_of };
 
-    ghost keeps = { Law.keeps (record { rows = record { flush = λ _. refl; finish = λ _ _ _. refl }; sees = λ _ _ _. refl; due = λ _. refl }) };
+    ghost keeps = { Law.keeps (record { rows = record { take = Whole.fetched_whole; finish = Whole.finished_whole }; sees = Law.sees_home; due = refl }) };
 
     fn clear(&mut self) {
         *self = Mesi::new();
