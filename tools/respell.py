@@ -21,6 +21,8 @@ PROOF = re.compile(r"/proofs/(?:.*/)?(?:Answers|Invariants|Proof)\.antt$")
 FIELD = re.compile(r"(?m)^ +(?:pub )?([^\s(){}.;,:]+) :")
 # A name whose new spelling is the library's gets another.
 TAKEN = {"bit-or": "bit_of_or"}
+# Types that the kit's script gave an underscore.
+TYPES = {"Asks_all": "AsksAll"}
 # Comments that the reader sees as prose: only spans between backticks are names there.
 PROSE_ANTT = re.compile(r"--[^\n]*")
 PROSE_RT = re.compile(r'//[^\n]*|"(?:\\.|[^"\\])*"')
@@ -70,7 +72,7 @@ def main(argv):
     edits = [p for p in files("crates") if p.endswith(".edit")]
     pages = [p for p in ["README.md", *files("docs"), *files("second")] if p.endswith(".md")]
 
-    library, own, fields, seen = set(), {}, set(), collections.defaultdict(set)
+    library, own, fields, seen = set(), dict(TYPES), set(), collections.defaultdict(set)
     for path in antt + rust:
         text = read(path)
         for head, items, _ in USE.findall(text):
@@ -110,6 +112,8 @@ def main(argv):
         made, at = [], 0
         for m in TOKEN.finditer(text):
             name, behind = m[0], text[m.start() - 1 : m.start()] == "."
+            if name in TYPES:
+                name = TYPES[name]
             if DASH.search(name) and name not in library and not of_library(text, m.start()):
                 if behind:
                     dotted = re.search(r"(goal|given)\.$", text[: m.start()])

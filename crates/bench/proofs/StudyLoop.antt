@@ -10,7 +10,7 @@ use Rattle.races.specs.Table.{start}
 use Rattle.races.specs.Study.{set_up, Watched}
 use Rattle.bench.specs.declared.requests.Request.{Request}
 use Rattle.bench.specs.declared.requests.Answer.{Answer}
-use Rattle.bench.specs.Requests.{Asks_all, no_more, room_of, rooms_of, Answered, Whole}
+use Rattle.bench.specs.Requests.{AsksAll, no_more, room_of, rooms_of, Answered, Whole}
 use Rattle.bench.proofs.Rooms.{rooms_less}
 use Rattle.bench.proofs.Studying.{asks_more, holds_throughout, watched_all}
 
@@ -41,7 +41,7 @@ module _ {X : Type 0} (xs rs part new : List X) (at k n : ℕ) (fits : at + k �
 
 -- The loop so far.
 pub record SoFar (M : Machine) (f : M.State) (x : RaceTable) (qs : List Request) (answers : List Answer) (out : List Outcome) (i at : ℕ) (t : M.State) (v : RaceTable) (now_answers : List Answer) (now_out : List Outcome) : Type 0 where
-  pub asked : Asks_all M f x (take i qs) (take i now_answers) (take at now_out) t v
+  pub asked : AsksAll M f x (take i qs) (take i now_answers) (take at now_out) t v
   pub told : drop i now_answers ≡ drop i answers
   pub rest : drop at now_out ≡ drop at out
   pub room : at + rooms_of (drop i qs) ≤ length out
@@ -62,9 +62,9 @@ far_more M {f} {t} {u} {x} {v} {y} qs {answers} {now_answers} {out} now_out part
     let less = rooms_less qs i d l in
     record {
       asked =
-          subst (λ (z : List Request). Asks_all M f x z (take (i + 1) (set now_answers i a)) (take (at + n) (put_mid at k now_out new)) u y) (sym (take_more qs i d l))
-          (subst (λ (z : List Answer). Asks_all M f x (take i qs ++ get_or qs i d ∷ []) z (take (at + n) (put_mid at k now_out new)) u y) (sym (take_more_set now_answers i a m))
-          (subst (λ (z : List Outcome). Asks_all M f x (take i qs ++ get_or qs i d ∷ []) (take i now_answers ++ a ∷ []) z u y) (sym (over_take now_out g.rs part new at k n fits p g.written (sym g.counted) few))
+          subst (λ (z : List Request). AsksAll M f x z (take (i + 1) (set now_answers i a)) (take (at + n) (put_mid at k now_out new)) u y) (sym (take_more qs i d l))
+          (subst (λ (z : List Answer). AsksAll M f x (take i qs ++ get_or qs i d ∷ []) z (take (at + n) (put_mid at k now_out new)) u y) (sym (take_more_set now_answers i a m))
+          (subst (λ (z : List Outcome). AsksAll M f x (take i qs ++ get_or qs i d ∷ []) (take i now_answers ++ a ∷ []) z u y) (sym (over_take now_out g.rs part new at k n fits p g.written (sym g.counted) few))
           (asks_more h.asked g.asks)));
       told = drop-set-lt (i + 1) now_answers i a (omega arith) ∙ (sym (drop-drop 1 i now_answers) ∙ (ap (drop 1) h.told ∙ drop-drop 1 i answers));
       rest = over_drop now_out g.rs part new at k n fits p g.written (sym g.counted) few ∙ (sym (drop-drop n at now_out) ∙ (ap (drop n) h.rest ∙ drop-drop n at out));
@@ -79,8 +79,8 @@ begins M f x h e = record { study = set_up h; table = e }
 
 pub study_done : (M : Machine) → Meaning M → (f t : M.State) (x v : RaceTable) (qs : List Request) (answers now_answers : List Answer) (out now_out : List Outcome) (i at : ℕ) → M.fresh f → x ≡ start → SoFar M f x qs answers out i at t v now_answers now_out → i ≡ length qs → length qs ≤ length answers → rooms_of qs ≤ length out → Whole M qs answers out at t v now_answers now_out
 study_done M means f t x v qs answers now_answers out now_out i at h e far is enough room =
-    let asked : Asks_all M f start qs (take i now_answers) (take at now_out) t v =
-    subst (λ (z : List Request). Asks_all M f start z (take i now_answers) (take at now_out) t v) (take_all i qs (omega arith)) (subst (λ (z : RaceTable). Asks_all M f z (take i qs) (take i now_answers) (take at now_out) t v) e far.asked) in
+    let asked : AsksAll M f start qs (take i now_answers) (take at now_out) t v =
+    subst (λ (z : List Request). AsksAll M f start z (take i now_answers) (take at now_out) t v) (take_all i qs (omega arith)) (subst (λ (z : RaceTable). AsksAll M f z (take i qs) (take i now_answers) (take at now_out) t v) e far.asked) in
     record {
       first = f;
       begins = h;

@@ -10,14 +10,14 @@ use Rattle.races.specs.Study.{Watched}
 use Rattle.bench.specs.declared.requests.Request.{Request}
 use Rattle.bench.specs.declared.requests.Answer.{Answer}
 use Rattle.bench.specs.Chains.{AnyStep, FirstPlace}
-use Rattle.bench.specs.Requests.{Asks, stepped, ran, no_room, settled, imaged, found, Asks_all, no_more, more, log_after, log_after_all, HoldsDuring, HoldsThroughout}
+use Rattle.bench.specs.Requests.{Asks, stepped, ran, no_room, settled, imaged, found, AsksAll, no_more, more, log_after, log_after_all, HoldsDuring, HoldsThroughout}
 use Rattle.bench.proofs.Holding.{holds, holds_along, chain_carries}
 
 -- One request more at the end.
-pub asks_more : {M : Machine} {s t u : M.State} {w v x : RaceTable} {q : Request} {a : Answer} {qs : List Request} {said : List Answer} {rs new : List Outcome} → Asks_all M s w qs said rs t v → Asks M t v q a new u x → Asks_all M s w (qs ++ q ∷ []) (said ++ a ∷ []) (rs ++ new) u x
-asks_more {M} {s} {t} {u} {w} {v} {x} {q} {a} {new = new} no_more h = subst (λ (z : List Outcome). Asks_all M s w (q ∷ []) (a ∷ []) z u x) (append-nil new) (more h no_more)
+pub asks_more : {M : Machine} {s t u : M.State} {w v x : RaceTable} {q : Request} {a : Answer} {qs : List Request} {said : List Answer} {rs new : List Outcome} → AsksAll M s w qs said rs t v → Asks M t v q a new u x → AsksAll M s w (qs ++ q ∷ []) (said ++ a ∷ []) (rs ++ new) u x
+asks_more {M} {s} {t} {u} {w} {v} {x} {q} {a} {new = new} no_more h = subst (λ (z : List Outcome). AsksAll M s w (q ∷ []) (a ∷ []) z u x) (append-nil new) (more h no_more)
 asks_more {M} {u = u} {x = x} {q = q} {a = a} {new = new} (more {s} {t} {w = w} {q = p} {a = b} {qs = qs} {said = said} {rs = rs} {more_rs = rest} h l) g =
-    subst (λ (z : List Outcome). Asks_all M s w (p ∷ (qs ++ q ∷ [])) (b ∷ (said ++ a ∷ [])) z u x) (sym (append_assoc rs rest new)) (more h (asks_more l g))
+    subst (λ (z : List Outcome). AsksAll M s w (p ∷ (qs ++ q ∷ [])) (b ∷ (said ++ a ∷ [])) z u x) (sym (append_assoc rs rest new)) (more h (asks_more l g))
 
 module _ (M : Machine) (means : Meaning M) where
   holds_during : {s t : M.State} {w v : RaceTable} {q : Request} {a : Answer} {rs : List Outcome} (g : Asks M s w q a rs t v) (log : Log) → Watched M s w log → HoldsDuring log g
@@ -36,10 +36,10 @@ module _ (M : Machine) (means : Meaning M) where
   watched_after (imaged g) log h = h
   watched_after (found g) log h = h
 
-  pub holds_throughout : {s t : M.State} {w v : RaceTable} {qs : List Request} {said : List Answer} {rs : List Outcome} (g : Asks_all M s w qs said rs t v) (log : Log) → Watched M s w log → HoldsThroughout log g
+  pub holds_throughout : {s t : M.State} {w v : RaceTable} {qs : List Request} {said : List Answer} {rs : List Outcome} (g : AsksAll M s w qs said rs t v) (log : Log) → Watched M s w log → HoldsThroughout log g
   holds_throughout (no_more {s} {w}) log h = holds M means s w log h
   holds_throughout (more g l) log h = (holds_during g log h, holds_throughout l (log_after log g) (watched_after g log h))
 
-  pub watched_all : {s t : M.State} {w v : RaceTable} {qs : List Request} {said : List Answer} {rs : List Outcome} (g : Asks_all M s w qs said rs t v) (log : Log) → Watched M s w log → Watched M t v (log_after_all log g)
+  pub watched_all : {s t : M.State} {w v : RaceTable} {qs : List Request} {said : List Answer} {rs : List Outcome} (g : AsksAll M s w qs said rs t v) (log : Log) → Watched M s w log → Watched M t v (log_after_all log g)
   watched_all no_more log h = h
   watched_all (more g l) log h = watched_all l (log_after log g) (watched_after g log h)

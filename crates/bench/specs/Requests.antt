@@ -40,9 +40,9 @@ pub data Asks (M : Machine) : M.State → RaceTable → Request → Answer → L
   found : {s : M.State} {w : RaceTable} {p : ℕ} {o : Option ℕ} → M.opens s p o → Asks M s w (NextOpen p) (Found o) [] s w
 
 -- The same of a list of requests, one after the other.
-pub data Asks_all (M : Machine) : M.State → RaceTable → List Request → List Answer → List Outcome → M.State → RaceTable → Type 0 where
-  no_more : {s : M.State} {w : RaceTable} → Asks_all M s w [] [] [] s w
-  more : {s t u : M.State} {w v x : RaceTable} {q : Request} {a : Answer} {qs : List Request} {said : List Answer} {rs more_rs : List Outcome} → Asks M s w q a rs t v → Asks_all M t v qs said more_rs u x → Asks_all M s w (q ∷ qs) (a ∷ said) (rs ++ more_rs) u x
+pub data AsksAll (M : Machine) : M.State → RaceTable → List Request → List Answer → List Outcome → M.State → RaceTable → Type 0 where
+  no_more : {s : M.State} {w : RaceTable} → AsksAll M s w [] [] [] s w
+  more : {s t u : M.State} {w v x : RaceTable} {q : Request} {a : Answer} {qs : List Request} {said : List Answer} {rs more_rs : List Outcome} → Asks M s w q a rs t v → AsksAll M t v qs said more_rs u x → AsksAll M s w (q ∷ qs) (a ∷ said) (rs ++ more_rs) u x
 
 -- The log after a request, fed with the answers that were written: a run as its steps, a settling as the moves that its outcomes show.
 abbrev pub log_after : {M : Machine} {s t : M.State} {w v : RaceTable} {q : Request} {a : Answer} {rs : List Outcome} → Log → Asks M s w q a rs t v → Log
@@ -53,7 +53,7 @@ log_after log (settled {ks = ks} {rs = rs} c l o f) = logged log ks rs
 log_after log (imaged h) = log
 log_after log (found h) = log
 
-abbrev pub log_after_all : {M : Machine} {s t : M.State} {w v : RaceTable} {qs : List Request} {said : List Answer} {rs : List Outcome} → Log → Asks_all M s w qs said rs t v → Log
+abbrev pub log_after_all : {M : Machine} {s t : M.State} {w v : RaceTable} {qs : List Request} {said : List Answer} {rs : List Outcome} → Log → AsksAll M s w qs said rs t v → Log
 log_after_all log no_more = log
 log_after_all log (more h l) = log_after_all (log_after log h) l
 
@@ -67,7 +67,7 @@ HoldsDuring {M} log (settled {s} {t} {w} {v} {ks} {n} {rs} {o} c l h f) = (Holds
 HoldsDuring {M} log (imaged {s} {w} {a} {r} h) = (Holds M s w log) × (r ≡ image_of (M.moment s) a)
 HoldsDuring {M} log (found {s} {w} {p} {o} h) = (Holds M s w log) × (FirstOpen (M.moment s) p o)
 
-abbrev pub HoldsThroughout : {M : Machine} {s t : M.State} {w v : RaceTable} {qs : List Request} {said : List Answer} {rs : List Outcome} → Log → Asks_all M s w qs said rs t v → Type 0
+abbrev pub HoldsThroughout : {M : Machine} {s t : M.State} {w v : RaceTable} {qs : List Request} {said : List Answer} {rs : List Outcome} → Log → AsksAll M s w qs said rs t v → Type 0
 HoldsThroughout {M} log (no_more {s} {w}) = Holds M s w log
 HoldsThroughout log (more h l) = (HoldsDuring log h) × HoldsThroughout (log_after log h) l
 
@@ -88,7 +88,7 @@ pub record Whole (M : Machine) (qs : List Request) (answers : List Answer) (out 
   pub begins : M.fresh first
   pub said : List Answer
   pub rs : List Outcome
-  pub asked : Asks_all M first start qs said rs t v
+  pub asked : AsksAll M first start qs said rs t v
   pub holds : HoldsThroughout empty_log asked
   pub carries : Watched M t v (log_after_all empty_log asked)
   pub enough : length qs ≤ length answers
