@@ -7,6 +7,7 @@ use anyhow::anyhow;
 use printing::fault_line;
 use std::alloc::Global;
 use std::io::{Read, Write};
+use std::process::ExitCode;
 use study_file::Failure;
 use study_run::run_file;
 
@@ -77,10 +78,10 @@ fn print_study(rt: &HostRuntime) -> anyhow::Result<bool> {
 }
 
 /// A fault ends with status 1 and nothing on standard error; what else goes wrong is said there.
-fn main(rt: HostRuntime) -> anyhow::Result<()> {
-    match print_study(&rt) {
-        Ok(true) => Ok(()),
-        Ok(false) => Err(anyhow!("")),
-        Err(error) => Err(error),
+fn main(rt: HostRuntime) -> anyhow::Result<ExitCode> {
+    if print_study(&rt)? {
+        Ok(ExitCode::SUCCESS)
+    } else {
+        Ok(ExitCode::FAILURE)
     }
 }
