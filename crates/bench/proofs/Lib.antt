@@ -1,7 +1,10 @@
 pub mod Answering
+pub mod Awaiting
 pub mod Chaining
 pub mod Computing
+pub mod HandingOver
 pub mod Holding
 pub mod Rooms
+pub mod RunsOut
 pub mod StudyLoop
 pub mod Studying

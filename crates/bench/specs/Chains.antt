@@ -1,5 +1,5 @@
 -- Steps taken one after the other: runs, and settlings.
-use Rattle.std.specs.Prelude.{◌≡◌, ℕ, ◌<◌, ◌≤◌, Bool, true, List, [], ◌∷◌, ◌++◌, length, drop, is_some, Some, Ok, Err, Option, Result}
+use Rattle.std.specs.Prelude.{◌≡◌, ℕ, ◌+◌, ◌*◌, ◌<◌, ◌≤◌, Bool, true, false, List, [], ◌∷◌, ◌++◌, length, drop, is_some, Some, None, Ok, Err, Option, Result}
 use Rattle.protocol.specs.declared.steps.Step.{Step}
 use Rattle.protocol.specs.declared.steps.Step.TheVariants.{Move}
 use Rattle.protocol.specs.declared.steps.Refusal.{Refusal}
@@ -66,6 +66,11 @@ pub record Ran (M : Machine) (s : M.State) (w : RaceTable) (ks : List Step) (out
 abbrev pub Runs : (M : Machine) → M.State → RaceTable → List Step → List Outcome → Result (Unit {0}) Fault → M.State → RaceTable → List Outcome → Type 0
 Runs M s w ks out (Ok done) t v new = Ran M s w ks out t v new
 Runs M s w ks out (Err f) t v new = (f ≡ few_outcomes) × (length out < length ks) × (new ≡ out)
+
+-- Messages run out: where the moves made before a settling and its room are more than the accepted core calls times reach, it leaves no place
+-- open, and no core waits.
+abbrev pub RunsOut : (M : Machine) → M.State → Log → ℕ → Bool → M.State → Type 0
+RunsOut M s log room still t = log.calls * (M.moment s).reach < log.moves + room → (still ≡ false) × ((c : ℕ) → c < 8 → (M.moment t).waits c ≡ None)
 
 -- A settling, where the outcomes were `out` and are `new`: it moves the first open place and writes the outcome, until no place is open or
 -- the outcomes are full; it answers the count of moves and whether a place is still open. Every study that led here is carried on by it.

@@ -1,4 +1,5 @@
 pub mod Chains
 pub mod Computed
 pub mod Faults
+pub mod Handovers
 pub mod Requests

@@ -3,6 +3,7 @@
 
 mod benches;
 mod faults;
+mod handovers;
 mod requests;
 mod runs;
 mod studies;

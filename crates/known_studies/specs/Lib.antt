@@ -1,2 +1,4 @@
 pub mod Cases
+pub mod Ends
+pub mod Generated
 pub mod Shown

@@ -7,6 +7,8 @@ ghost use Rattle.bench.specs.Computed.{state_after, table_after};
 ghost use Rattle.mesi.specs.Bus.{state_of, start};
 ghost use Rattle.races.specs.Table.{start as none_ended};
 ghost use Rattle.known_studies.specs.Cases.{cases, mesi_step, handover};
+ghost use Rattle.known_studies.specs.Ends.{all_end, neat_due, mesi_copies_after, reaches_by_rules};
+ghost use Rattle.known_studies.specs.Generated.{neat_dues, mesi_copies, reaches};
 ghost use Rattle.protocol.specs.declared.steps.Ended.TheVariants.{Loaded};
 ghost use Rattle.races.specs.declared.outcomes.Outcome.TheVariants.{Ended as HasEnded};
 
@@ -15,9 +17,13 @@ use mesi::Mesi;
 use protocol::Protocol;
 use races::Outcome;
 
-/// Every known study comes out under the rules as it is known.
+/// Every known study comes out under the rules as it is known. Due under Neat, the states of copies under bus MESI and the reach of
+/// buffers are also what an independent program found for the studies that it drew.
 pub fn studies_hold() -> bool
     ensures facts { all_known cases ≡ true }
+    ensures dues { all_end neat_due neat_dues ≡ true }
+    ensures copies { all_end mesi_copies_after mesi_copies ≡ true }
+    ensures reaches { reaches_by_rules ≡ reaches }
     ensures value { result ≡ true }
 {
     true

@@ -126,7 +126,7 @@ none_ok : (j : Step) → None ≡ Some j → CallOk j
 none_ok j e = let z : ◌≡◌ {A = ℕ} 0 1 = cc in absurd (omega arith)
 
 -- An ended call is added as it was named.
-adds_itself : (x : Ended) (xs : List Ended) → as_ended (call_of x) (answered x) xs ≡ x ∷ xs
+pub adds_itself : (x : Ended) (xs : List Ended) → as_ended (call_of x) (answered x) xs ≡ x ∷ xs
 adds_itself (Loaded c a b) xs = refl
 adds_itself (Stored c a b) xs = refl
 adds_itself (Acquired c) xs = refl

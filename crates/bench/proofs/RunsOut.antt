@@ -1,5 +1,5 @@
 -- Messages run out: each move of a settling lowers due, which the accepted core calls have paid for.
-use Rattle.std.proofs.Common.{◌≡◌, ℕ, ◌+◌, ◌*◌, ◌<◌, ◌≤◌, Bool, true, false, cond, List, length, is_some, Some, None, Option, refl, ap, subst, zero-le, arith}
+use Rattle.std.proofs.Common.{◌≡◌, ℕ, ◌+◌, ◌*◌, ◌<◌, ◌≤◌, Bool, true, false, cond, List, length, is_some, Some, None, Option, sym, refl, ap, ◌∙◌, subst, zero-le, arith}
 use Rattle.std.proofs.lemmas.Bool.{true≢false}
 use Rattle.protocol.specs.declared.steps.Step.{Step}
 use Rattle.protocol.specs.declared.steps.Step.TheVariants.{Move}
@@ -15,7 +15,7 @@ use Rattle.races.specs.Log.{Log}
 use Rattle.races.specs.Table.{reply_of}
 use Rattle.races.specs.Study.{Watched, Takes}
 use Rattle.races.proofs.StudyLaw.{study_kept}
-use Rattle.bench.specs.Chains.{Chain, nothing, then, FirstPlace, RunsOut}
+use Rattle.bench.specs.Chains.{Chain, nothing, then, FirstPlace, Settled, RunsOut}
 use Rattle.bench.proofs.Holding.{holds, chain_carries}
 
 -- An accepted move lowers due.
@@ -54,3 +54,7 @@ module _ (M : Machine) (means : Meaning M) where
       let after = holds M means t v _ (chain_carries M (FirstPlace M) c log h) in
       let e = not_full (is_some o) log.moves (M.moment s).due (M.moment t).due (log.calls * (M.moment s).reach) (length rs) room kept.paid (chain_falls kept.reached c) l f in
       (e, after.coherent.no_wait (none_open (M.moment t) o (after.opens 0 o a) e))
+
+  pub settled_runs_out : {s t : M.State} {w v : RaceTable} {out new : List Outcome} {count : ℕ} {still : Bool} → Settled M s w out count still t v new → (log : Log) → Watched M s w log → RunsOut M s log (length out) still t
+  settled_runs_out {s} {t} {out = out} h log l =
+      subst (λ (b : Bool). RunsOut M s log (length out) b t) (sym h.still_is) (runs_out (length out) h.next h.chain h.asked (λ e. sym h.counted ∙ h.full (h.still_is ∙ e)) log l)

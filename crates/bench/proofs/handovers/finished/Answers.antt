@@ -10,7 +10,7 @@ returns-in-Finished c = finished_first c.args.outcomes.now _ c.in-Finished.call 
 
 pub loop-outcome-preserved : goal.loop-outcome-preserved
 loop-outcome-preserved c =
-    finished_next c.args.outcomes.now c.loop-outcome.outcome-index _ _ c.loop-outcome-test.true c.loop-outcome.invariant refl ∙ finished_none _ c.in-default.not-Finished
+    finished_next c.args.outcomes.now c.loop-outcome.outcome-index _ _ c.loop-outcome-test.true c.loop-outcome.invariant refl ∙ finished_none _ c.in_default.not-Finished
 
 pub returns : goal.returns
 returns c = sym c.loop-outcome.invariant ∙ ap first_finished (take_all c.loop-outcome.outcome-index c.args.outcomes.now c.loop-outcome-test.false)

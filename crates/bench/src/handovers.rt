@@ -24,8 +24,8 @@ impl<P: Protocol> Bench<P> {
     /// Makes a core call and, if its core waits, settles. Answers the call once it has ended.
     fn await_call(&mut self, step: Step, outcomes: &mut [Outcome]) -> Option<Ended>
         requires { CanWait step }
-        ensures made { Awaits machine (state self.old.protocol) self.old.races step outcomes.old result (state self.new.protocol) self.new.races outcomes.new }
-        ensures right { CallAwaited machine (state self.old.protocol) self.old.races step (length outcomes.old) result (state self.new.protocol) self.new.races }
+        ensures made { Awaits P.machine (P.state self.old.protocol) self.old.races step outcomes.old result (P.state self.new.protocol) self.new.races outcomes.new }
+        ensures right { CallAwaited P.machine (P.state self.old.protocol) self.old.races step (length outcomes.old) result (P.state self.new.protocol) self.new.races }
     {
         match self.step(step) {
             Outcome::Ended { call, .. } => Some(call),
@@ -47,8 +47,8 @@ impl<P: Protocol> Bench<P> {
         byte: u8,
         outcomes: &mut [Outcome],
     ) -> Option<u8>
-        ensures made { HandoverTrail machine from to address byte outcomes.old result (state self.new.protocol) self.new.races outcomes.new }
-        ensures right { HandsOver machine from to address byte (length outcomes.old) result (state self.new.protocol) self.new.races }
+        ensures made { HandoverTrail P.machine from to address byte outcomes.old result (P.state self.new.protocol) self.new.races outcomes.new }
+        ensures right { HandsOver P.machine from to address byte (length outcomes.old) result (P.state self.new.protocol) self.new.races }
     {
         self.set_up();
         let _ = self.await_call(

@@ -20,7 +20,7 @@ use Rattle.races.specs.Study.{Watched, Takes}
 use Rattle.races.proofs.StudyLaw.{study_kept, fed_step, ended_after}
 use Rattle.bench.specs.Chains.{Chain, nothing, then, FirstPlace, logged, Settled}
 use Rattle.bench.specs.Handovers.{finished_call, else_later, first_finished, Quiet, CallAwaited}
-use Rattle.bench.proofs.RunsOut.{place_delivered}
+use Rattle.bench.proofs.RunsOut.{place_delivered, settled_runs_out}
 
 -- The first call ended in one list and then another.
 finished_append : (xs ys : List Outcome) → first_finished (xs ++ ys) ≡ else_later (first_finished xs) (first_finished ys)
@@ -207,7 +207,7 @@ module _ (M : Machine) (means : Meaning M) where
           ⊎_elim
           (λ (l : (length xs + 1) * (M.moment u).reach < length out).
           let enough = more_room q.log.calls q.log.moves (M.moment t).reach (M.moment u).reach (length xs) (length out) q.calls (reach_settled (feed q.log k IsWaiting) h.chain (after q)) l in
-          let none = (h.runs_out (feed q.log k IsWaiting) (after q) enough).1 (caller k) only.core in
+          let none = (settled_runs_out M means h (feed q.log k IsWaiting) (after q) enough).1 (caller k) only.core in
           let some = only.there in
           let z : ◌≡◌ {A = ℕ} 0 1 = cc in
           absurd (omega arith))

@@ -6,13 +6,12 @@ use Rattle.mesi.specs.declared.copies.PrivateLine.{PrivateLine}
 use Rattle.mesi.specs.declared.copies.PrivateLine.TheVariants.{Invalid, Shared, Exclusive, Modified}
 use Rattle.mesi.specs.Rows.{LineRow}
 use Rattle.mesi.specs.Bus as bus
-use Rattle.mesi.specs.Bus.{mesi_step}
 use Rattle.neat_rules.specs.State as neat_state
 use Rattle.neat_rules.specs.Reading as neat_reading
-use Rattle.neat_rules.specs.Machine.{neat_step}
 use Rattle.protocol.specs.Moment.{Moment}
 use Rattle.buffer_rules.specs.Buffered.{empty, moment_over}
 use Rattle.known_studies.specs.Shown.{same}
+use Rattle.known_studies.specs.Cases.{mesi_step, neat_step}
 
 -- The steps of a study, and the numbers that are known of its end.
 pub record Ending : Type 0 where

@@ -18,9 +18,9 @@ returns-in-Waits g c =
       right = awaited_settled g.P.Protocol.machine g.met.P.Protocol.keeps c.args.step c.finished.result c.requires c.in-Waits.ensures c.settle-moves.ensures c.finished.ensures;
     }
 
-pub returns-in-default : goal.returns-in-default
-returns-in-default g c =
+pub returns-in_default : goal.returns-in_default
+returns-in_default g c =
     record {
-      made = neither c.step.ensures c.in-default.not-Ended c.in-default.not-Waits;
-      right = awaited_refused g.P.Protocol.machine g.met.P.Protocol.keeps c.args.step c.step.result (length c.args.outcomes.now) c.requires c.in-default.not-Ended c.in-default.not-Waits c.step.ensures;
+      made = neither c.step.ensures c.in_default.not-Ended c.in_default.not-Waits;
+      right = awaited_refused g.P.Protocol.machine g.met.P.Protocol.keeps c.args.step c.step.result (length c.args.outcomes.now) c.requires c.in_default.not-Ended c.in_default.not-Waits c.step.ensures;
     }
