@@ -1,11 +1,12 @@
 //! The bench and its steps.
 
-ghost use Rattle.std.specs.Prelude.{◌≡◌};
+ghost use Rattle.std.specs.Prelude.{◌≡◌, ◌<◌, false};
 ghost use Rattle.protocol.specs.Meaning.{FirstOpen, image_of};
 ghost use Rattle.protocol.specs.Steps.{Fit};
 ghost use Rattle.protocol.specs.declared.steps.Step.TheVariants.{Load, Store, Acquire, Release, Evict, Move};
 ghost use Rattle.races.specs.Log.{Log, empty_log};
-ghost use Rattle.races.specs.Races.{number, first_race};
+ghost use Rattle.races.specs.Guarantee.{ImageAnswers};
+ghost use Rattle.races.specs.Races.{number, first_race, newest, any_race};
 ghost use Rattle.races.specs.Study.{Takes, Watched};
 ghost use Rattle.races.specs.Table.{start};
 
@@ -56,7 +57,7 @@ impl<P: Protocol> Bench<P> {
         self.protocol.image(address)
     }
 
-    fn open_from(&self, place: u8) -> Option<u8>
+    pub(crate) fn open_from(&self, place: u8) -> Option<u8>
         ensures { P.machine.opens (P.state self.now.protocol) place result }
     {
         self.protocol.next_open(place)
@@ -94,12 +95,21 @@ impl<P: Protocol> Bench<P> {
         self.clear();
     }
 
+    /// Takes one step and writes its outcome: the protocol's answer, with the race mark.
+    pub(crate) fn step_into(&mut self, step: Step, outcome: &mut Outcome)
+        ensures { Takes P.machine (P.state self.old.protocol) self.old.races step outcome.new (P.state self.new.protocol) self.new.races }
+    {
+        let reply = ask(&mut self.protocol, step);
+        *outcome = self.races.mark(reply);
+    }
+
     /// Takes one step: the protocol's answer, with the race mark.
     pub fn step(&mut self, step: Step) -> Outcome
         ensures { Takes P.machine (P.state self.old.protocol) self.old.races step result (P.state self.new.protocol) self.new.races }
     {
-        let reply = ask(&mut self.protocol, step);
-        self.races.mark(reply)
+        let mut outcome = Outcome::Waits;
+        self.step_into(step, &mut outcome);
+        outcome
     }
 
     pub fn load(&mut self, core: u8, address: u8) -> Outcome
@@ -163,6 +173,7 @@ impl<P: Protocol> Bench<P> {
     pub fn image(&self, address: u8) -> Result<u8, Refusal>
         ensures answers { P.machine.images (P.state self.now.protocol) address result }
         ensures means { (log : Log) → Watched P.machine (P.state self.now.protocol) self.now.races log → result ≡ image_of (P.machine.moment (P.state self.now.protocol)) address }
+        ensures right { (log : Log) → Watched P.machine (P.state self.now.protocol) self.now.races log → any_race log.ended ≡ false → address < 64 → ImageAnswers result address log.ended (newest address log.ended) }
     {
         self.home(address)
     }

@@ -16,11 +16,11 @@ pub enum Cause {
     ProtocolNotFirst,
     /// No protocol has that code.
     UnknownCode,
-    /// The file has more than 32,768 bytes, or more than 4,096 steps.
+    /// There are more than 32,768 bytes, or more than 4,096 steps.
     TooLong,
-    /// The report does not fit the output.
+    /// The report, or the file that is written, does not fit the output.
     OutputTooShort,
-    /// There are fewer outcomes than steps.
+    /// There are fewer outcomes than steps, or fewer answers than requests.
     TooFewOutcomes,
 }
 
@@ -32,7 +32,8 @@ pub enum Layer {
     Caller,
 }
 
-/// A fault: its cause, the place of the record that has it, and the layer that found it.
+/// A fault: its cause, its place, and the layer that found it. The place is that of the record in its file; 32768 where the file is too
+/// long, and 0 where the file has no record or a call is at fault.
 #[derive(Clone, Copy, PartialEq, Eq, Debug)]
 pub struct Fault {
     pub cause: Cause,

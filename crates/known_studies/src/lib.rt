@@ -392,6 +392,24 @@ mod tests {
     }
 
     // A drain that waits in its middle, through two buffers: settling ends it, and the image has both bytes.
+    // Room for more than four times reach under each protocol here; the largest is 95, of a buffer over Neat.
+    fn hands_over<P: Protocol + Drop>(rt: &impl Abort, protocol: P) {
+        let mut outcomes = [Outcome::Waits; 400];
+        let mut bench = Bench::new(protocol);
+        let byte = bench.hand_over(0, 1, 10, 0x41, &mut outcomes);
+        assert!(rt; byte == Some(0x41), "the byte was not handed over");
+        let none = bench.hand_over(0, 8, 10, 0x41, &mut outcomes);
+        assert!(rt; none == None, "there is no core 8");
+    }
+
+    #[test]
+    fn a_byte_is_handed_over(rt: HostRuntime) {
+        hands_over(&rt, Mesi::new());
+        hands_over(&rt, Neat::new());
+        hands_over(&rt, StoreBuffer::new(Mesi::new()));
+        hands_over(&rt, StoreBuffer::new(Neat::new()));
+    }
+
     #[test]
     fn two_buffers_drain_through_neat(rt: HostRuntime) {
         let mut bench = Bench::new(StoreBuffer::new(StoreBuffer::new(Neat::new())));

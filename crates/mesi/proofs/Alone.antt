@@ -1,9 +1,9 @@
 -- A row's property, that an owner is alone, after each change of its copies.
-use Rattle.std.proofs.Common.{◌≡◌, ℕ, zero, suc, Bool, true, false, not, List, [], ◌∷◌, map, set, refl, ap, ◌∙◌}
-use Rattle.std.proofs.lemmas.Bool.{true≢false, not-true, or_parts, or_from}
+use Rattle.std.proofs.Common.{◌≡◌, ℕ, zero, suc, Bool, true, false, not, List, [], ◌∷◌, map, length, get_or, set, replicate, sym, refl, ap, ◌∙◌}
+use Rattle.std.proofs.lemmas.Bool.{true≢false, false≢true, not-true, or_parts, or_from}
 use Rattle.mesi.specs.declared.copies.PrivateLine.{PrivateLine}
 use Rattle.mesi.specs.declared.copies.PrivateLine.TheVariants.{Invalid, Shared, Exclusive, Modified}
-use Rattle.mesi.specs.Copies.{holds, owns, downgraded, fetched, some, owner_alone}
+use Rattle.mesi.specs.Copies.{holds, owns, is_modified, downgraded, fetched, some, owner_alone}
 
 -- A copy that fails a test joins others that fail it.
 none_set : (test : PrivateLine → Bool) (xs : List PrivateLine) (c : ℕ) (x : PrivateLine) → test x ≡ false → some test xs ≡ false → some test (set xs c x) ≡ false
@@ -75,3 +75,33 @@ alone_evicted (Invalid ∷ xs) (suc c) h = alone_evicted xs c h
 alone_evicted (Shared d ∷ xs) (suc c) h = ap not (none_set owns xs c Invalid refl (not-true (some owns xs) h))
 alone_evicted (Exclusive d ∷ xs) (suc c) h = ap not (none_set holds xs c Invalid refl (not-true (some holds xs) h))
 alone_evicted (Modified d ∷ xs) (suc c) h = ap not (none_set holds xs c Invalid refl (not-true (some holds xs) h))
+
+-- Beside an M copy all others are I.
+unheld_invalid : (xs : List PrivateLine) → some holds xs ≡ false → xs ≡ replicate (length xs) Invalid
+unheld_invalid [] h = refl
+unheld_invalid (Invalid ∷ xs) h = ap (λ (ys : List PrivateLine). Invalid ∷ ys) (unheld_invalid xs h)
+unheld_invalid (Shared d ∷ xs) h = absurd (true≢false h)
+unheld_invalid (Exclusive d ∷ xs) h = absurd (true≢false h)
+unheld_invalid (Modified d ∷ xs) h = absurd (true≢false h)
+
+some_owns : (xs : List PrivateLine) (c : ℕ) → is_modified (get_or xs c Invalid) ≡ true → some owns xs ≡ true
+some_owns [] c h = absurd (false≢true h)
+some_owns (Invalid ∷ xs) zero h = absurd (false≢true h)
+some_owns (Shared d ∷ xs) zero h = absurd (false≢true h)
+some_owns (Exclusive d ∷ xs) zero h = absurd (false≢true h)
+some_owns (Modified d ∷ xs) zero h = refl
+some_owns (Invalid ∷ xs) (suc c) h = some_owns xs c h
+some_owns (Shared d ∷ xs) (suc c) h = some_owns xs c h
+some_owns (Exclusive d ∷ xs) (suc c) h = refl
+some_owns (Modified d ∷ xs) (suc c) h = refl
+
+pub alone_modified : (xs : List PrivateLine) (c : ℕ) → owner_alone xs ≡ true → is_modified (get_or xs c Invalid) ≡ true → xs ≡ set (replicate (length xs) Invalid) c (get_or xs c Invalid)
+alone_modified [] c a h = refl
+alone_modified (Invalid ∷ xs) zero a h = absurd (false≢true h)
+alone_modified (Shared d ∷ xs) zero a h = absurd (false≢true h)
+alone_modified (Exclusive d ∷ xs) zero a h = absurd (false≢true h)
+alone_modified (Modified d ∷ xs) zero a h = ap (λ (ys : List PrivateLine). Modified d ∷ ys) (unheld_invalid xs (not-true (some holds xs) a))
+alone_modified (Invalid ∷ xs) (suc c) a h = ap (λ (ys : List PrivateLine). Invalid ∷ ys) (alone_modified xs c a h)
+alone_modified (Shared d ∷ xs) (suc c) a h = absurd (true≢false (sym (some_owns xs c h) ∙ not-true (some owns xs) a))
+alone_modified (Exclusive d ∷ xs) (suc c) a h = absurd (true≢false (sym (some_owns xs c h) ∙ unheld_unowned xs (not-true (some holds xs) a)))
+alone_modified (Modified d ∷ xs) (suc c) a h = absurd (true≢false (sym (some_owns xs c h) ∙ unheld_unowned xs (not-true (some holds xs) a)))

@@ -1,5 +1,5 @@
 -- The copies of one line at the eight cores.
-use Rattle.std.specs.Prelude.{ℕ, Bool, true, false, not, ◌||◌, List, [], ◌∷◌}
+use Rattle.std.specs.Prelude.{ℕ, Bool, true, false, not, ◌||◌, List, [], ◌∷◌, slice_set}
 use Rattle.mesi.specs.declared.copies.PrivateLine.{PrivateLine}
 use Rattle.mesi.specs.declared.copies.PrivateLine.TheVariants.{Invalid, Shared, Exclusive, Modified}
 
@@ -16,6 +16,20 @@ owns Invalid = false
 owns (Shared d) = false
 owns (Exclusive d) = true
 owns (Modified d) = true
+
+-- A core has a line in M.
+abbrev pub is_modified : PrivateLine → Bool
+is_modified Invalid = false
+is_modified (Shared d) = false
+is_modified (Exclusive d) = false
+is_modified (Modified d) = true
+
+-- An M copy with byte b written at offset o.
+abbrev pub written : ℕ → ℕ → PrivateLine → PrivateLine
+written o b Invalid = Invalid
+written o b (Shared d) = Shared d
+written o b (Exclusive d) = Exclusive d
+written o b (Modified d) = Modified (slice_set d o b)
 
 -- Another core's load leaves S where M or E was.
 abbrev pub downgraded : PrivateLine → PrivateLine

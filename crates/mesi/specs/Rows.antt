@@ -68,6 +68,10 @@ transacted r c k = transaction (copy_at r c) k r c
 abbrev pub finished : LineRow → ℕ → List ℕ → LineRow
 finished r c line = record { copies = slice_set (replicate 8 Invalid) c (Modified line); llc = r.llc }
 
+-- Core c gets the line for a store: after its transaction it has what it sees in M, and all others have I.
+abbrev pub owned : LineRow → ℕ → LineRow
+owned r c = finished (transacted r c Store) c (seen_line (transacted r c Store) c)
+
 -- A load is its transaction; the core then reads what it sees.
 abbrev pub loaded : LineRow → ℕ → LineRow
 loaded r c = transacted r c Load

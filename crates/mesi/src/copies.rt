@@ -1,7 +1,9 @@
 //! One core's copy of a line, and the copies of all cores.
 
-ghost use Rattle.std.specs.Prelude.{◌≡◌, map};
-ghost use Rattle.mesi.specs.Copies.{holds, downgraded, fetched, some, modified_or};
+ghost use Rattle.std.specs.Prelude.{◌≡◌, map, slice_index};
+ghost use Rattle.mesi.specs.Copies.{holds, is_modified, written, held_or, downgraded, fetched, some, modified_or};
+
+use protocol::Offset;
 
 /// One core's copy of a line: I, or S, E or M with the line's eight bytes.
 #[derive(Clone, Copy)]
@@ -20,6 +22,37 @@ impl PrivateLine {
         match self {
             PrivateLine::Invalid => false,
             PrivateLine::Shared(_) | PrivateLine::Exclusive(_) | PrivateLine::Modified(_) => true,
+        }
+    }
+
+    /// Whether the core has the line in M.
+    pub fn is_modified(self) -> bool
+        ensures { result ≡ is_modified self }
+    {
+        match self {
+            PrivateLine::Modified(_) => true,
+            PrivateLine::Invalid | PrivateLine::Shared(_) | PrivateLine::Exclusive(_) => false,
+        }
+    }
+
+    /// The byte of the copy, or the given line's where the core holds none.
+    pub fn byte_or(&self, line: &[u8; 8], offset: Offset) -> u8
+        ensures { result ≡ slice_index (held_or line.now self.now) offset.number }
+    {
+        match self {
+            PrivateLine::Invalid => line[offset.index()],
+            PrivateLine::Shared(own) => own[offset.index()],
+            PrivateLine::Exclusive(own) => own[offset.index()],
+            PrivateLine::Modified(own) => own[offset.index()],
+        }
+    }
+
+    /// Writes a byte of an M copy.
+    pub fn write(&mut self, offset: Offset, byte: u8)
+        ensures { self.new ≡ written offset.number byte self.old }
+    {
+        if let PrivateLine::Modified(line) = self {
+            line[offset.index()] = byte;
         }
     }
 

@@ -7,3 +7,4 @@ mod Settling
 mod Whole
 mod Steps
 mod Opening
+mod Quiet

@@ -1,7 +1,8 @@
 -- Messages, slots and cores' parts of the code, read as those of the rules.
-use Rattle.std.specs.Prelude.{ℕ, Bool, true, false, List, [], Some, None, Option, slice_index_or}
+use Rattle.std.specs.Prelude.{ℕ, Bool, true, false, not, ◌&&◌, List, [], Some, None, Option, slice_index_or}
 use Rattle.neat_rules.specs.State.{Place, Empty, Closing, Activity, Slot, Core}
 use Rattle.neat_rules.specs.State as rules
+use Rattle.neat_rules.specs.Reading.{carries, close_carries}
 use Rattle.neat.specs.declared.message.Message.{Message}
 use Rattle.neat.specs.declared.message.Message.TheVariants.{GetLine, Data, Put, PutAck, Commit}
 use Rattle.neat.specs.declared.message.Closing.{Closing as CodeClosing}
@@ -62,6 +63,10 @@ waiting (rules.Loading a) = true
 waiting (rules.Storing a y) = true
 waiting rules.Acquiring = true
 waiting rules.Releasing = true
+
+-- None of a core's nine places carries a message.
+abbrev pub quiet : Core → Bool
+quiet x = not (rules.some_below 8 (λ l. carries (x.slot l).place)) && not (close_carries x.closing)
 
 -- A core's part with a byte stored in its line l, if that is V.
 abbrev pub stored_in : Core → ℕ → ℕ → ℕ → Core

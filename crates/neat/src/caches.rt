@@ -4,7 +4,7 @@ ghost use Rattle.std.specs.Prelude.{◌≡◌, ◌<◌};
 ghost use Rattle.protocol.specs.Cells.{line_of, offset_of};
 ghost use Rattle.neat_rules.specs.State.{start};
 ghost use Rattle.neat_rules.specs.Rules.{at_core, load as load_rule, store as store_rule, evict as evict_rule, release as release_rule, acquire as acquire_rule};
-ghost use Rattle.neat.specs.Parts.{waiting};
+ghost use Rattle.neat.specs.Parts.{waiting, quiet};
 ghost use Rattle.neat.specs.Whole.{as_state, core_at, open_there, moved_there};
 
 use crate::core_part::CorePart;
@@ -75,6 +75,13 @@ impl Caches {
             Place::Line(core, line) => self.cores[core.index()].carries(line),
             Place::Close(core) => self.cores[core.index()].close_carries(),
         }
+    }
+
+    /// Whether none of a core's places carries a message.
+    pub fn is_quiet(&self, core: Core) -> bool
+        ensures { result ≡ quiet ((as_state self.now).cores core.number) }
+    {
+        self.cores[core.index()].is_quiet()
     }
 
     /// Moves the message at a place.

@@ -6,7 +6,7 @@ ghost use Rattle.neat_rules.specs.State.{with_place, I};
 ghost use Rattle.neat_rules.specs.Rules.{awaiting, load as load_rule, store as store_rule, evict as evict_rule, release as release_rule, acquire as acquire_rule, settled as settled_rule, ended as ended_rule, after_ack, getline_moved, data_moved, put_moved, putack_moved, answered, commit_moved, close_moved, putallack_moved, message_moved, given, close_place_moved};
 ghost use Rattle.neat_rules.specs.Reading.{carries, close_carries};
 ghost use Rattle.neat.specs.Blocks.{as_bytes};
-ghost use Rattle.neat.specs.Parts.{as_core, as_activity, as_place, waiting, no_core, stored_in, filled};
+ghost use Rattle.neat.specs.Parts.{as_core, as_activity, as_place, waiting, no_core, quiet, stored_in, filled};
 
 use crate::message::{Closing, Message};
 use crate::slot::Slot;
@@ -341,6 +341,17 @@ impl CorePart {
             Closing::Close(_) | Closing::PutAllAck => true,
             Closing::Shut | Closing::Noted(_) => false,
         }
+    }
+
+    /// Whether none of the nine places carries a message.
+    pub fn is_quiet(&self) -> bool
+        ensures { result ≡ quiet (as_core self.now) }
+    {
+        let mut open = false;
+        for line in 0..8 {
+            open |= self.slots[line].carries();
+        }
+        !open && !self.close_carries()
     }
 
     /// Moves the message about a line, of which the LLC has `shared`.

@@ -1,10 +1,10 @@
 //! Neat behind the interface that every protocol keeps.
 
-ghost use Rattle.std.specs.Prelude.{◌≡◌};
+ghost use Rattle.std.specs.Prelude.{◌≡◌, ◌+◌, ◌<◌, true};
 ghost use Rattle.protocol.specs.Meaning.{Reached};
 ghost use Rattle.neat_rules.specs.State.{start};
 ghost use Rattle.neat_rules.specs.Machine.{neat};
-ghost use Rattle.neat_rules.specs.Reading.{open_in};
+ghost use Rattle.neat_rules.specs.Reading.{open_in, next_open};
 ghost use Rattle.neat.specs.Whole.{as_state};
 ghost use Rattle.neat_rules.proofs.Keeps.{neat_keeps};
 
@@ -36,6 +36,16 @@ impl Neat {
         match locate(number) {
             Some(place) => self.caches.is_open(place),
             None => false,
+        }
+    }
+
+    /// Whether the nine places of a core begin at that number, and none of them carries a message.
+    fn is_quiet_from(&self, number: u8) -> bool
+        ensures { result ≡ true → (number < 64) × (next_open (as_state self.now.caches) number ≡ next_open (as_state self.now.caches) (number + 9)) }
+    {
+        match Core::new(number / 9) {
+            Ok(core) if number % 9 == 0 => self.caches.is_quiet(core),
+            _ => false,
         }
     }
 }
@@ -126,9 +136,14 @@ impl Protocol for Neat {
     }
 
     fn next_open(&self, place: u8) -> Option<u8> {
-        for number in place..72 {
-            if self.is_open(number) {
+        let mut number = place;
+        while number < 72 {
+            if self.is_quiet_from(number) {
+                number += 9;
+            } else if self.is_open(number) {
                 return Some(number);
+            } else {
+                number += 1;
             }
         }
         None

@@ -1,7 +1,8 @@
 -- What holds of every study over every protocol that keeps the meaning.
-use Rattle.std.specs.Prelude.{◌≡◌, ℕ, ◌+◌, ◌*◌, ◌<◌, ◌≤◌, true, false, List, ◌∷◌, ◌++◌, Some, None, Ok, Option}
+use Rattle.std.specs.Prelude.{◌≡◌, ℕ, ◌+◌, ◌*◌, ◌<◌, ◌≤◌, true, false, List, ◌∷◌, ◌++◌, Some, None, Ok, Option, Result}
 use Rattle.protocol.specs.declared.steps.Ended.{Ended}
 use Rattle.protocol.specs.declared.steps.Ended.TheVariants.{Loaded}
+use Rattle.protocol.specs.declared.steps.Refusal.{Refusal}
 use Rattle.protocol.specs.Moment.{Moment}
 use Rattle.protocol.specs.Meaning.{image_of}
 use Rattle.races.specs.declared.table.RaceTable.{RaceTable}
@@ -20,6 +21,11 @@ expected a xs = byte_written (newest a xs)
 abbrev pub ImageIs : Moment → ℕ → List Ended → Option Written → Type 0
 ImageIs m a xs None = image_of m a ≡ Ok 0
 ImageIs m a xs (Some w) = released w.core (since a xs) ≡ true → image_of m a ≡ Ok w.byte
+
+-- An answer r for the image of a is right in the same sense.
+abbrev pub ImageAnswers : Result ℕ Refusal → ℕ → List Ended → Option Written → Type 0
+ImageAnswers r a xs None = r ≡ Ok 0
+ImageAnswers r a xs (Some w) = released w.core (since a xs) ≡ true → r ≡ Ok w.byte
 
 -- The guarantee, at one point of a study: the protocol's moment and the log so far.
 pub record Coherent (m : Moment) (log : Log) : Type 0 where

@@ -1,7 +1,7 @@
 //! What the bus does to one line's row.
 
 ghost use Rattle.std.specs.Prelude.{◌≡◌};
-ghost use Rattle.mesi.specs.Rows.{row_of, cleared_row, home_line, seen_line, seen_at, flushed, taken, transacted, finished, loaded, stored, evicted};
+ghost use Rattle.mesi.specs.Rows.{row_of, cleared_row, home_line, seen_line, seen_at, flushed, taken, transacted, finished, owned, loaded, stored, evicted};
 
 use crate::copies::{PrivateLine, downgrade, fetched, modified_or, some_hold};
 use crate::rows::Row;
@@ -33,6 +33,18 @@ impl Row {
         modified_or(&self.copies, self.llc)
     }
 
+    /// The byte of the core's own copy if it holds the line, else of home.
+    fn seen_byte(&self, core: Core, offset: Offset) -> u8
+        ensures { result ≡ seen_at (row_of self.now) core.number offset.number }
+    {
+        if self.copies[core.index()].holds() {
+            self.copies[core.index()].byte_or(&self.llc, offset)
+        } else {
+            let home = self.home();
+            home[offset.index()]
+        }
+    }
+
     /// The core's own copy if it holds the line, else home.
     fn seen(&self, core: Core) -> [u8; 8]
         ensures { result ≡ seen_line (row_of self.now) core.number }
@@ -57,11 +69,9 @@ impl Row {
     fn take(&mut self, core: Core)
         ensures { row_of self.new ≡ taken (row_of self.old) core.number }
     {
-        let mut copies = self.copies;
-        let others_hold = some_hold(&copies);
-        downgrade(&mut copies);
-        copies[core.index()] = fetched(others_hold, self.llc);
-        self.copies = copies;
+        let others_hold = some_hold(&self.copies);
+        downgrade(&mut self.copies);
+        self.copies[core.index()] = fetched(others_hold, self.llc);
     }
 
     /// What goes over the bus at a call, by the state of the caller's copy.
@@ -90,9 +100,21 @@ impl Row {
     fn finish(&mut self, core: Core, line: [u8; 8])
         ensures { row_of self.new ≡ finished (row_of self.old) core.number line }
     {
-        let mut copies = [PrivateLine::Invalid; 8];
-        copies[core.index()] = PrivateLine::Modified(line);
-        self.copies = copies;
+        self.copies = [PrivateLine::Invalid; 8];
+        self.copies[core.index()] = PrivateLine::Modified(line);
+    }
+
+    /// The core gets the line for a store. Where it has it in M already, all others have I.
+    fn own(&mut self, core: Core)
+        ensures { row_of self.new ≡ owned (row_of self.old) core.number }
+    {
+        let own = self.copies[core.index()];
+        if own.is_modified() {
+            return;
+        }
+        self.transact(core, Call::Store);
+        let line = self.seen(core);
+        self.finish(core, line);
     }
 
     /// Answers the byte that the core then sees.
@@ -101,18 +123,15 @@ impl Row {
         ensures byte { result ≡ seen_at (loaded (row_of self.old) core.number) core.number offset.number }
     {
         self.transact(core, Call::Load);
-        let line = self.seen(core);
-        line[offset.index()]
+        self.seen_byte(core, offset)
     }
 
     /// Writes the byte into the line that the core then has in M.
     pub fn store(&mut self, core: Core, offset: Offset, byte: u8)
         ensures { row_of self.new ≡ stored (row_of self.old) core.number offset.number byte }
     {
-        self.transact(core, Call::Store);
-        let mut line = self.seen(core);
-        line[offset.index()] = byte;
-        self.finish(core, line);
+        self.own(core);
+        self.copies[core.index()].write(offset, byte);
     }
 
     /// Leaves I at the core.

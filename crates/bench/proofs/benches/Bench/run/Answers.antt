@@ -10,7 +10,7 @@ loop-index-init g c = far_none g.P.Protocol.machine (AnyStep g.P.Protocol.machin
 
 pub loop-index-preserved : goal.loop-index-preserved
 loop-index-preserved g c =
-    run_more g.P.Protocol.machine _ _ _ _ _ _ c.args.steps.now _ c.loop-index.outcomes c.loop-index.index _ c.step.result c.loop-index-test.true (omega arith) c.loop-index.invariant c.step.ensures
+    run_more g.P.Protocol.machine _ _ _ _ _ _ c.args.steps.now _ c.loop-index.outcomes _ c.loop-index.index _ c.take.ensures.outcome c.loop-index-test.true (omega arith) c.loop-index.invariant c.take.ensures.takes c.take.ensures.written
 
 pub returns : goal.returns
 returns g c =

@@ -3,4 +3,4 @@ use Rattle.std.proofs.Common.{rules}
 use Rattle.bench.proofs.benches.Bench.take.Goals as goal
 
 pub returns : goal.returns
-returns g c = record { outcome = c.step-into.new.outcome; takes = c.step-into.ensures; written = search rules }
+returns g c = record { outcome = c.step_into.new.outcome; takes = c.step_into.ensures; written = search rules }
