@@ -1,6 +1,5 @@
 -- Made by the second program from the rules in docs/: studies with what is known of their ends.
 use Rattle.std.specs.Prelude.{ℕ, List, [], ◌∷◌}
-use Rattle.protocol.specs.declared.steps.Step.{Step}
 use Rattle.protocol.specs.declared.steps.Step.TheVariants.{Load, Store, Acquire, Release, Evict, Move}
 use Rattle.known_studies.specs.Ends.{Ending, ending}
 

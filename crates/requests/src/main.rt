@@ -1,4 +1,5 @@
 //! Makes the lists of requests on standard input, and prints what each request comes to.
+#![tactic(auto)]
 
 mod lists;
 mod texts;

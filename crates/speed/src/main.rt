@@ -1,5 +1,6 @@
 //! How fast the library makes the study on standard input: thousands of steps a second. Without an argument it makes the study once each
 //! way and says how many steps that are.
+#![tactic(auto)]
 
 use anyhow::anyhow;
 use bench::Bench;
