@@ -12,7 +12,7 @@ use crate::cases;
 use crate::report;
 
 /// How many differing cases are saved.
-const SAVED: usize = 5;
+pub const SAVED: usize = 5;
 
 struct Difference {
     number: u64,
@@ -21,9 +21,11 @@ struct Difference {
     output: Output,
 }
 
-/// Runs a program with bytes on its standard input. Input that it does not read is no matter.
-fn run(program: &Path, input: &[u8]) -> io::Result<Output> {
+/// Runs a program with arguments, and bytes on its standard input. Input that it does not read is
+/// no matter.
+pub fn run(program: &Path, arguments: &[&str], input: &[u8]) -> io::Result<Output> {
     let mut child = Command::new(program)
+        .args(arguments)
         .stdin(Stdio::piped())
         .stdout(Stdio::piped())
         .stderr(Stdio::piped())
@@ -39,7 +41,7 @@ fn run(program: &Path, input: &[u8]) -> io::Result<Output> {
 fn difference(program: &Path, seed: u64, number: u64) -> io::Result<Option<Difference>> {
     let study = cases::case(seed, number);
     let printed = report::of_file(&study);
-    let output = run(program, &study)?;
+    let output = run(program, &[], &study)?;
     let status = i32::from(!printed.sound);
     let same = output.stdout == printed.text.as_bytes() && output.status.code() == Some(status);
     Ok((!same).then_some(Difference {

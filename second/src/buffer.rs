@@ -14,6 +14,7 @@ struct Entry {
     byte: u8,
 }
 
+#[derive(Clone)]
 pub struct Buffer {
     below: Box<dyn Protocol>,
     /// Oldest entry first.
@@ -110,6 +111,12 @@ enum Drained {
 }
 
 impl Protocol for Buffer {
+    fn clear(&mut self) {
+        self.below.clear();
+        self.queues = Default::default();
+        self.waits = [None; CORES];
+    }
+
     fn begin(&mut self, call: Call) -> Option<Ended> {
         match call {
             Call::Load { core, address } => match self.entry(core, address) {
@@ -165,8 +172,17 @@ impl Protocol for Buffer {
         self.below.message(place)
     }
 
+    fn next_open(&self, place: u8) -> Option<u8> {
+        self.below.next_open(place)
+    }
+
     fn home(&self, address: u8) -> u8 {
         self.below.home(address)
+    }
+
+    /// Four stores and a release below, and some slack.
+    fn reach(&self) -> usize {
+        (ENTRIES + 1) * (self.below.reach() + 1)
     }
 
     fn entries(&self, core: u8) -> Vec<(u8, u8)> {
@@ -174,5 +190,9 @@ impl Protocol for Buffer {
             .iter()
             .map(|entry| (entry.address, entry.byte))
             .collect()
+    }
+
+    fn fork(&self) -> Box<dyn Protocol> {
+        Box::new(self.clone())
     }
 }

@@ -5,16 +5,17 @@ use std::fmt::Write;
 use crate::corpus::Case;
 use crate::file::{self, Cause, MOST_BYTES, MOST_STEPS, Study};
 use crate::report;
+use crate::rows;
 use crate::table::Table;
 use crate::watch::Watch;
 
 /// The table of a corpus, and a line on whether this program still prints what is stored there.
 pub fn count(cases: &[Case]) -> String {
-    let mut table = Table::new();
+    let mut table = Table::new(&rows::SECTIONS, &rows::COLUMNS);
     let mut other = 0;
     for case in cases {
-        count_file(&mut table, case.study);
-        if report::of_file(case.study).text.as_bytes() != case.expected {
+        count_file(&mut table, &case.study);
+        if report::of_file(&case.study).text.as_bytes() != case.expected {
             other += 1;
         }
     }
@@ -50,14 +51,14 @@ fn count_file(table: &mut Table, bytes: &[u8]) {
 }
 
 fn count_study(table: &mut Table, study: &Study) {
-    table.set_code(Some(study.code));
+    table.set_column(Some(usize::from(study.code) - 1));
     table.add("sound studies", "studies");
     table.add_many("sound studies", "steps", study.steps.len() as u64);
     let mut watch = Watch::new(table, study.code);
     for &step in &study.steps {
         watch.step(step);
     }
-    table.set_code(None);
+    table.set_column(None);
     match study.steps.len() {
         0 => table.add("limits", "no step"),
         MOST_STEPS => table.add("limits", "exactly 4,096 steps (large)"),

@@ -17,11 +17,9 @@ const WIDTH: usize = 140;
 
 const HEADING: &str = "\
 -- Made by the second program from the rules in docs/: studies with what is known of their ends.
-use mathlib.Core.List.{List, [], _∷_}
-use Prim.Native.Nat.{ℕ}
-use Rattle·protocol.specs.declared.steps.Step.{Step}
-use Rattle·protocol.specs.declared.steps.Step.the-variants.{Load, Store, Acquire, Release, Evict, Move}
-use Rattle·known_studies·specs.Ends.{Ending, ending}
+use Rattle.std.specs.Prelude.{ℕ, List, [], ◌∷◌}
+use Rattle.protocol.specs.declared.steps.Step.TheVariants.{Load, Store, Acquire, Release, Evict, Move}
+use Rattle.known_studies.specs.Ends.{Ending, ending}
 ";
 
 /// A study, and the numbers that are known of its end.
@@ -34,10 +32,10 @@ pub struct Ending {
 pub fn text(seed: u64) -> String {
     let mut text = String::from(HEADING);
     text += "\n-- Under Neat, with due after the last step.\n";
-    push_endings(&mut text, "neat-dues", &neat_dues(seed));
+    push_endings(&mut text, "neat_dues", &neat_dues(seed));
     text += "\n-- Under bus MESI, with each copy after the last step, line by line and core by core: \
              0 is I, 1 S, 2 E, 3 M.\n";
-    push_endings(&mut text, "mesi-copies", &mesi_copies(seed));
+    push_endings(&mut text, "mesi_copies", &mesi_copies(seed));
     text += "\n-- The reach of a buffer over bus MESI, over Neat, over a buffer over bus MESI, \
              and over a buffer over Neat.\n";
     _ = writeln!(

@@ -129,19 +129,25 @@ pub fn protocol_record(code: u8) -> Vec<u8> {
     raw_record(1, &[code])
 }
 
-pub fn step_record(step: Step) -> Vec<u8> {
+/// The kind of a step, and its fields.
+pub fn kind_and_fields(step: Step) -> (u8, Vec<u8>) {
     match step {
-        Step::Call(Call::Load { core, address }) => raw_record(2, &[core, address]),
+        Step::Call(Call::Load { core, address }) => (2, vec![core, address]),
         Step::Call(Call::Store {
             core,
             address,
             byte,
-        }) => raw_record(3, &[core, address, byte]),
-        Step::Call(Call::Acquire { core }) => raw_record(4, &[core]),
-        Step::Call(Call::Release { core }) => raw_record(5, &[core]),
-        Step::Call(Call::Evict { core, line }) => raw_record(6, &[core, line]),
-        Step::Move { place } => raw_record(7, &[place]),
+        }) => (3, vec![core, address, byte]),
+        Step::Call(Call::Acquire { core }) => (4, vec![core]),
+        Step::Call(Call::Release { core }) => (5, vec![core]),
+        Step::Call(Call::Evict { core, line }) => (6, vec![core, line]),
+        Step::Move { place } => (7, vec![place]),
     }
+}
+
+pub fn step_record(step: Step) -> Vec<u8> {
+    let (kind, fields) = kind_and_fields(step);
+    raw_record(kind.into(), &fields)
 }
 
 /// The records of a study, one by one.

@@ -1,14 +1,19 @@
-//! A second program for Kuvormagy's study files, written from its documents alone.
+//! A second program for Kuvormagy's study files and lists of requests, written from its documents
+//! alone.
 
 mod against;
 mod bench;
+mod block;
 mod buffer;
+mod call;
 mod cases;
 mod corpus;
 mod count;
 mod damage;
+mod facts;
 mod file;
 mod limits;
+mod lists;
 mod mesi;
 mod neat;
 mod play;
@@ -16,13 +21,16 @@ mod protocol;
 mod race;
 mod random;
 mod report;
+mod rows;
 mod speed;
 mod step;
 mod table;
 mod taste;
 #[cfg(test)]
 mod tests;
+mod versus;
 mod watch;
+mod whole;
 
 use std::fs::{self, File};
 use std::io::{self, BufWriter, Read, Write};
@@ -34,8 +42,14 @@ const USAGE: &str = "usage:
   second generate SEED COUNT DIR
   second corpus SEED COUNT OUT
   second count CORPUS
-  second bench
-  second against PROGRAM COUNT SEED [DIR]";
+  second against PROGRAM COUNT SEED [DIR]
+  second requests
+  second lists SEED COUNT OUT
+  second count-lists FILE
+  second against-lists PROGRAM COUNT SEED [DIR]
+  second facts SEED OUT
+  second studies DIR
+  second bench [DIR PROGRAM]";
 
 fn main() -> ExitCode {
     let arguments: Vec<String> = std::env::args().skip(1).collect();
@@ -62,9 +76,28 @@ fn command(arguments: &[&str]) -> io::Result<ExitCode> {
             Ok(ExitCode::SUCCESS)
         }
         ["count", corpus] => count(corpus),
-        ["bench"] => print(&speed::table()),
         ["against", program, count, seed] => against(program, count, seed, "differ"),
         ["against", program, count, seed, folder] => against(program, count, seed, folder),
+        ["requests"] => requests(io::stdin().lock()),
+        ["lists", seed, count, out] => {
+            fs::write(out, lists::draw::input(number(seed)?, 0..number(count)?))?;
+            Ok(ExitCode::SUCCESS)
+        }
+        ["count-lists", file] => print(&lists::count::count(&fs::read(file)?)),
+        ["against-lists", program, count, seed] => against_lists(program, count, seed, "differ"),
+        ["against-lists", program, count, seed, folder] => {
+            against_lists(program, count, seed, folder)
+        }
+        ["facts", seed, out] => {
+            fs::write(out, facts::text(number(seed)?))?;
+            Ok(ExitCode::SUCCESS)
+        }
+        ["studies", folder] => {
+            speed::write_studies(Path::new(folder))?;
+            Ok(ExitCode::SUCCESS)
+        }
+        ["bench"] => print(&speed::table()),
+        ["bench", folder, program] => print(&versus::table(Path::new(folder), Path::new(program))?),
         _ => {
             eprintln!("{USAGE}");
             Ok(ExitCode::from(2))
@@ -92,11 +125,13 @@ fn run(input: impl Read) -> io::Result<ExitCode> {
         .read_to_end(&mut bytes)?;
     let printed = report::of_file(&bytes);
     print(&printed.text)?;
-    Ok(if printed.sound {
-        ExitCode::SUCCESS
-    } else {
-        ExitCode::FAILURE
-    })
+    Ok(success_if(printed.sound))
+}
+
+fn requests(mut input: impl Read) -> io::Result<ExitCode> {
+    let mut bytes = Vec::new();
+    input.read_to_end(&mut bytes)?;
+    print(&lists::text::of_input(&bytes))
 }
 
 fn generate(seed: u64, count: u64, folder: &Path) -> io::Result<ExitCode> {
@@ -119,9 +154,20 @@ fn against(program: &str, count: &str, seed: &str, folder: &str) -> io::Result<E
     let (count, seed) = (number(count)?, number(seed)?);
     let differ = against::compare(Path::new(program), count, seed, Path::new(folder))?;
     print(&format!("{count} compared, {differ} differ\n"))?;
-    Ok(if differ == 0 {
+    Ok(success_if(differ == 0))
+}
+
+fn against_lists(program: &str, count: &str, seed: &str, folder: &str) -> io::Result<ExitCode> {
+    let (count, seed) = (number(count)?, number(seed)?);
+    let differ = lists::against::compare(Path::new(program), count, seed, Path::new(folder))?;
+    print(&format!("{count} lists compared, {differ} differ\n"))?;
+    Ok(success_if(differ == 0))
+}
+
+fn success_if(passed: bool) -> ExitCode {
+    if passed {
         ExitCode::SUCCESS
     } else {
         ExitCode::FAILURE
-    })
+    }
 }

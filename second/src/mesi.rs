@@ -5,8 +5,9 @@ use std::collections::BTreeMap;
 use crate::protocol::{Kind, Protocol};
 use crate::step::{CORES, Call, Ended, LINE_BYTES, LINES, Refusal};
 
+/// The state of a copy that a core holds.
 #[derive(Clone, Copy, Debug, PartialEq, Eq)]
-enum State {
+pub enum State {
     Shared,
     Exclusive,
     Modified,
@@ -19,6 +20,7 @@ struct Held {
 }
 
 /// A line that is in no map is I.
+#[derive(Clone)]
 pub struct Mesi {
     caches: [BTreeMap<usize, Held>; CORES],
     llc: [[u8; LINE_BYTES]; LINES],
@@ -30,6 +32,11 @@ impl Mesi {
             caches: Default::default(),
             llc: Default::default(),
         }
+    }
+
+    /// The state of a core's copy; none is I.
+    pub fn state(&self, core: usize, line: usize) -> Option<State> {
+        self.caches[core].get(&line).map(|held| held.state)
     }
 
     /// The core's copy, after a fetch if it had none.
@@ -75,6 +82,10 @@ impl Mesi {
 }
 
 impl Protocol for Mesi {
+    fn clear(&mut self) {
+        *self = Mesi::new();
+    }
+
     fn begin(&mut self, call: Call) -> Option<Ended> {
         let core = usize::from(call.core());
         Some(match call {
@@ -103,6 +114,10 @@ impl Protocol for Mesi {
         None
     }
 
+    fn next_open(&self, _place: u8) -> Option<u8> {
+        None
+    }
+
     fn home(&self, address: u8) -> u8 {
         let address = usize::from(address);
         let line = address / LINE_BYTES;
@@ -112,6 +127,14 @@ impl Protocol for Mesi {
             .filter_map(|cache| cache.get(&line))
             .find(|held| held.state == State::Modified);
         modified.map_or(self.llc[line], |held| held.bytes)[address % LINE_BYTES]
+    }
+
+    fn reach(&self) -> usize {
+        0
+    }
+
+    fn fork(&self) -> Box<dyn Protocol> {
+        Box::new(self.clone())
     }
 }
 

@@ -9,6 +9,10 @@ use crate::protocol::{Kind, Protocol};
 use crate::step::{CORES, Call, Ended, LINE_BYTES, LINES, Refusal};
 
 const PLACES_PER_CORE: usize = LINES + 1;
+const PLACES: usize = CORES * PLACES_PER_CORE;
+
+/// What is due for a message to the LLC, and so at most for each place of a core.
+const DUE_TO_LLC: usize = 2;
 
 type Bytes = [u8; LINE_BYTES];
 
@@ -68,7 +72,7 @@ impl Message {
     }
 }
 
-#[derive(Default)]
+#[derive(Clone, Default)]
 struct Core {
     /// The private lines; none is I.
     lines: [Option<Block>; LINES],
@@ -133,18 +137,22 @@ impl Core {
         }
     }
 
-    /// Ends the acquire or release that the core waits for, if the core is done.
-    fn settle(&mut self) -> Option<Ended> {
-        let closes = matches!(
+    /// Whether the core waits for an acquire or release.
+    fn closes(&self) -> bool {
+        matches!(
             self.waits,
             Some(Call::Acquire { .. } | Call::Release { .. })
-        );
+        )
+    }
+
+    /// Ends the acquire or release that the core waits for, if the core is done.
+    fn settle(&mut self) -> Option<Ended> {
         let putting = self.queues[..LINES]
             .iter()
             .flatten()
             .any(|message| matches!(message, Message::Put(_) | Message::PutAck));
         let done = self.queues[LINES].is_empty() && self.noted.is_none() && !putting;
-        if closes && done {
+        if self.closes() && done {
             self.waits.take().map(Ended::silent)
         } else {
             None
@@ -203,6 +211,7 @@ fn done(call: Call, block: &mut Block) -> Ended {
     }
 }
 
+#[derive(Clone)]
 pub struct Neat {
     cores: [Core; CORES],
     llc: [Bytes; LINES],
@@ -218,6 +227,10 @@ impl Neat {
 }
 
 impl Protocol for Neat {
+    fn clear(&mut self) {
+        *self = Neat::new();
+    }
+
     fn begin(&mut self, call: Call) -> Option<Ended> {
         let core = &mut self.cores[usize::from(call.core())];
         match call {
@@ -253,15 +266,32 @@ impl Protocol for Neat {
             .map(Message::kind)
     }
 
+    fn next_open(&self, place: u8) -> Option<u8> {
+        let queues = self.cores.iter().flat_map(|core| &core.queues);
+        (0..PLACES as u8)
+            .zip(queues)
+            .skip(place.into())
+            .find(|(_, queue)| !queue.is_empty())
+            .map(|(place, _)| place)
+    }
+
     fn home(&self, address: u8) -> u8 {
         let address = usize::from(address);
         self.llc[address / LINE_BYTES][address % LINE_BYTES]
     }
+
+    fn reach(&self) -> usize {
+        Neat::REACH
+    }
+
+    fn fork(&self) -> Box<dyn Protocol> {
+        Box::new(self.clone())
+    }
 }
 
-#[cfg(test)]
 impl Neat {
-    pub const REACH: usize = PLACES_PER_CORE * 2;
+    /// Eight Commits and a Close.
+    pub const REACH: usize = PLACES_PER_CORE * DUE_TO_LLC;
 
     /// The bound on the moves still to come.
     pub fn due(&self) -> usize {
@@ -270,9 +300,31 @@ impl Neat {
             .flat_map(|core| &core.queues)
             .flatten()
             .map(|message| match message.kind() {
-                Kind::GetLine | Kind::Put | Kind::Commit | Kind::Close => 2,
+                Kind::GetLine | Kind::Put | Kind::Commit | Kind::Close => DUE_TO_LLC,
                 Kind::Data | Kind::PutAck | Kind::PutAllAck => 1,
             })
             .sum()
+    }
+
+    /// The messages behind which a GetLine is held back.
+    pub fn held_back_behind(&self) -> Vec<Kind> {
+        self.cores
+            .iter()
+            .flat_map(|core| &core.queues)
+            .filter(|queue| queue.len() > 1)
+            .filter_map(|queue| queue.front().map(Message::kind))
+            .collect()
+    }
+
+    /// Whether the Close of some core is noted.
+    pub fn has_noted(&self) -> bool {
+        self.cores.iter().any(|core| core.noted.is_some())
+    }
+
+    /// Whether some core waits for an acquire or release whose PutAllAck has come.
+    pub fn waits_for_puts(&self) -> bool {
+        self.cores
+            .iter()
+            .any(|core| core.closes() && core.queues[LINES].is_empty() && core.noted.is_none())
     }
 }

@@ -1,19 +1,21 @@
 //! Studies that are worth running: steps are chosen by what the bench came to so far.
 
 use crate::bench::Bench;
+use crate::buffer::ENTRIES;
 use crate::file::Study;
-use crate::protocol::{self, Kind};
+use crate::protocol::{self, Kind, Stack};
 use crate::random::Random;
 use crate::step::{Call, Step};
 use crate::taste::{Order, Taste};
 
-struct Player<'a> {
-    random: &'a mut Random,
-    taste: Taste,
-    bench: Bench,
-    /// Whether there is a store buffer, so that a store goes below only when others push it.
-    buffered: bool,
-    steps: Vec<Step>,
+pub struct Player<'a> {
+    pub random: &'a mut Random,
+    pub taste: Taste,
+    pub bench: Bench,
+    /// With a store buffer, a store goes below only when others push it.
+    buffers: u8,
+    /// The steps that were made.
+    pub steps: Vec<Step>,
 }
 
 /// How long a study is to be.
@@ -25,15 +27,8 @@ pub enum Length {
 
 /// A study of a code. So many of a hundred of its steps are meant to be refused.
 pub fn study(random: &mut Random, code: u8, odd: usize, length: Length) -> Study {
-    let taste = Taste::new(random, code, odd);
-    let protocol = protocol::by_code(code).expect("studies are made for known codes");
-    let mut player = Player {
-        random,
-        taste,
-        bench: Bench::new(protocol),
-        buffered: code > 2,
-        steps: Vec::new(),
-    };
+    let stack = Stack::of_code(code).expect("studies are made for known codes");
+    let mut player = Player::new(random, stack, odd);
     match length {
         Length::About(steps) => {
             player.play(steps);
@@ -52,8 +47,33 @@ pub fn study(random: &mut Random, code: u8, odd: usize, length: Length) -> Study
     }
 }
 
+impl<'a> Player<'a> {
+    pub fn new(random: &'a mut Random, stack: Stack, odd: usize) -> Self {
+        Player {
+            taste: Taste::new(random, stack.buffers, odd),
+            random,
+            bench: Bench::new(stack.cleared()),
+            buffers: stack.buffers,
+            steps: Vec::new(),
+        }
+    }
+
+    /// A player of the same taste, at the start of a new study.
+    pub fn afresh(&mut self) -> Player<'_> {
+        let mut bench = self.bench.clone();
+        bench.set_up();
+        Player {
+            random: self.random,
+            taste: self.taste.clone(),
+            bench,
+            buffers: self.buffers,
+            steps: Vec::new(),
+        }
+    }
+}
+
 impl Player<'_> {
-    fn play(&mut self, steps: usize) {
+    pub fn play(&mut self, steps: usize) {
         while self.steps.len() < steps {
             if self.random.percent(self.taste.scenes) {
                 self.scene();
@@ -63,7 +83,7 @@ impl Player<'_> {
         }
     }
 
-    fn make(&mut self, step: Step) {
+    pub fn make(&mut self, step: Step) {
         self.bench.step(step);
         self.steps.push(step);
     }
@@ -100,7 +120,7 @@ impl Player<'_> {
         self.random.one_of(&self.taste.cores)
     }
 
-    fn address(&mut self) -> u8 {
+    pub fn address(&mut self) -> u8 {
         self.random.one_of(&self.taste.addresses)
     }
 
@@ -111,12 +131,12 @@ impl Player<'_> {
         cores
     }
 
-    fn open_places(&self) -> Vec<u8> {
+    pub fn open_places(&self) -> Vec<u8> {
         protocol::open_places(self.bench.protocol())
     }
 
     /// One step: a refused one, a move, or a call.
-    fn any(&mut self) {
+    pub fn any(&mut self) {
         if self.random.percent(self.taste.odd) {
             let step = self.odd_step();
             return self.make(step);
@@ -208,7 +228,7 @@ impl Player<'_> {
         });
     }
 
-    fn scene(&mut self) {
+    pub fn scene(&mut self) {
         match self.random.below(6) {
             0 => self.hand_over(),
             1 | 2 => self.evict_and_go_on(),
@@ -239,7 +259,7 @@ impl Player<'_> {
     fn evict_and_go_on(&mut self) {
         let (core, address) = (self.core(), self.address());
         self.store(core, address);
-        if self.buffered || self.random.percent(30) {
+        if self.buffers > 0 || self.random.percent(30) {
             self.overflow(core);
         }
         self.free(core);
@@ -281,9 +301,10 @@ impl Player<'_> {
         }
     }
 
-    /// Stores to many addresses, so that a buffer is full and older stores go below.
+    /// Stores to many addresses, so that every buffer is full and older stores go below.
     fn overflow(&mut self, core: u8) {
-        for address in self.taste.addresses.clone().into_iter().take(7) {
+        let count = 3 + ENTRIES * usize::from(self.buffers.max(1));
+        for address in self.taste.addresses.clone().into_iter().take(count) {
             self.store(core, address);
         }
     }
@@ -319,7 +340,7 @@ impl Player<'_> {
     }
 
     /// A step that is refused, save where no core waits.
-    fn odd_step(&mut self) -> Step {
+    pub fn odd_step(&mut self) -> Step {
         let no_core = match self.random.below(3) {
             0 => 8,
             1 => self.random.one_of(&[9, 16, 64, 128, 255]),

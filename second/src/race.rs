@@ -5,7 +5,7 @@ use crate::step::Call;
 /// Numbers of calls stop here.
 pub const LAST_NUMBER: usize = 65_535;
 
-#[derive(Default)]
+#[derive(Clone, Default)]
 pub struct Log {
     ended: Vec<Call>,
     first_race: usize,

@@ -1,8 +1,9 @@
 //! Reports and fault lines.
 
-use crate::bench::{Answer, Bench};
+use crate::bench::{Bench, Marked};
 use crate::file::{self, Fault, Study};
 use crate::protocol;
+use crate::race::Log;
 use crate::step::{Call, Outcome, Step};
 
 /// What the program prints for a file, and whether it is a report.
@@ -19,37 +20,43 @@ pub fn of_file(bytes: &[u8]) -> Printed {
             sound: true,
         },
         Err(fault) => Printed {
-            text: fault_line(fault),
+            text: line_of_fault(fault),
             sound: false,
         },
     }
 }
 
-fn of_study(study: &Study) -> String {
+/// The report of a study that was read.
+pub fn of_study(study: &Study) -> String {
     let protocol = protocol::by_code(study.code).expect("a study that was read has a known code");
     let mut bench = Bench::new(protocol);
     let mut text = format!("protocol {}\n", study.code);
-    text.reserve(163 + 14 * study.steps.len());
+    text.reserve(length(study.steps.len()));
     for &step in &study.steps {
-        let answer = bench.step(step);
-        push_step_line(&mut text, step, answer);
+        let marked = bench.step(step);
+        push_step_line(&mut text, step, marked);
     }
-    let log = bench.log();
-    text += &format!("ended {:05} race {:05}\n", log.count(), log.first_race());
-    for byte in bench.image() {
-        push_hex(&mut text, byte);
-    }
-    text.push('\n');
+    text += &counts_line(bench.log());
+    push_hex_line(&mut text, &bench.image());
     text
 }
 
-fn fault_line(fault: Fault) -> String {
-    format!(
-        "fault {:02} place {:05} layer {}\n",
-        fault.cause.number(),
-        fault.place,
-        fault.cause.layer()
-    )
+/// The bytes of a report of so many steps.
+pub fn length(steps: usize) -> usize {
+    163 + 14 * steps
+}
+
+pub fn counts_line(log: &Log) -> String {
+    format!("ended {:05} race {:05}\n", log.count(), log.first_race())
+}
+
+/// The line of a fault of a file.
+pub fn line_of_fault(fault: Fault) -> String {
+    fault_line(fault.cause.number(), fault.place, fault.cause.layer())
+}
+
+pub fn fault_line(number: u8, place: usize, layer: u8) -> String {
+    format!("fault {number:02} place {place:05} layer {layer}\n")
 }
 
 fn push_hex(text: &mut String, byte: u8) {
@@ -58,13 +65,21 @@ fn push_hex(text: &mut String, byte: u8) {
     }
 }
 
-fn push_step_line(text: &mut String, step: Step, answer: Answer) {
+/// A line of two digits for each byte.
+pub fn push_hex_line(text: &mut String, bytes: &[u8]) {
+    for &byte in bytes {
+        push_hex(text, byte);
+    }
+    text.push('\n');
+}
+
+pub fn push_step_line(text: &mut String, step: Step, marked: Marked) {
     let own = match step {
         Step::Call(call) => Some(call),
         Step::Move { .. } => None,
     };
-    let ended = answer.outcome.ended();
-    let (letter, refusal) = match answer.outcome {
+    let ended = marked.outcome.ended();
+    let (letter, refusal) = match marked.outcome {
         Outcome::Refused(refusal) => ('R', refusal.number()),
         Outcome::Waits => ('W', 0),
         Outcome::Ended(_) => ('E', 0),
@@ -81,7 +96,7 @@ fn push_step_line(text: &mut String, step: Step, answer: Answer) {
         Some(byte) => push_hex(text, byte),
         None => text.push_str("--"),
     }
-    text.push_str(if answer.races { " ! 0" } else { " . 0" });
+    text.push_str(if marked.races { " ! 0" } else { " . 0" });
     text.push(char::from(b'0' + refusal));
     text.push('\n');
 }

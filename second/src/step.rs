@@ -26,6 +26,16 @@ impl Call {
         }
     }
 
+    pub fn name(self) -> &'static str {
+        match self {
+            Call::Load { .. } => "load",
+            Call::Store { .. } => "store",
+            Call::Acquire { .. } => "acquire",
+            Call::Release { .. } => "release",
+            Call::Evict { .. } => "evict",
+        }
+    }
+
     /// The letter of the call in a report.
     pub fn letter(self) -> char {
         match self {

@@ -4,6 +4,7 @@ use crate::protocol::Kind;
 use crate::random::Random;
 use crate::step::LINE_BYTES;
 
+#[derive(Clone)]
 pub struct Taste {
     pub cores: Vec<u8>,
     pub addresses: Vec<u8>,
@@ -31,14 +32,14 @@ pub enum Order {
 }
 
 impl Taste {
-    /// A taste for a code. So many of a hundred steps are meant to be refused.
-    pub fn new(random: &mut Random, code: u8, odd: usize) -> Self {
+    /// A taste for so many buffers. So many of a hundred steps are meant to be refused.
+    pub fn new(random: &mut Random, buffers: u8, odd: usize) -> Self {
         let cores = [1, 2, 3, 4, 8][random.weighted(&[10, 45, 25, 12, 8])];
         let cores = random.some_of(cores, 8);
         // A buffer is full only where there are addresses enough.
-        let lines = match code {
-            3 | 4 => [1, 3, 5, 8][random.weighted(&[15, 30, 30, 25])],
-            _ => [1, 2, 3, 5, 8][random.weighted(&[30, 35, 15, 10, 10])],
+        let lines = match buffers {
+            0 => [1, 2, 3, 5, 8][random.weighted(&[30, 35, 15, 10, 10])],
+            _ => [1, 3, 5, 8][random.weighted(&[15, 30, 30, 25])],
         };
         let offsets = random.between(1, 4);
         let addresses = random

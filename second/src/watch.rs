@@ -1,6 +1,6 @@
 //! Watches the steps of a study, and counts what they come to.
 
-use crate::bench::{Answer, Bench};
+use crate::bench::{Bench, Marked};
 use crate::buffer::ENTRIES;
 use crate::protocol::{self, Kind};
 use crate::step::{CORES, Call, Ended, Outcome, Refusal, Step};
@@ -43,19 +43,23 @@ impl<'a> Watch<'a> {
 
     pub fn step(&mut self, step: Step) {
         let before = self.look(step);
-        let answer = self.bench.step(step);
-        if let Some(ended) = answer.outcome.ended() {
-            self.ended(step, ended, answer);
+        let marked = self.bench.step(step);
+        if let Some(ended) = marked.outcome.ended() {
+            self.ended(step, ended, marked);
             self.ended.push(ended.call);
         }
         match step {
-            Step::Call(call) => self.called(call, answer.outcome, &before),
-            Step::Move { place } => self.moved(place, answer.outcome, &before),
+            Step::Call(call) => self.called(call, marked.outcome, &before),
+            Step::Move { place } => self.moved(place, marked.outcome, &before),
         }
     }
 
     fn message(&self, place: u8) -> Option<Kind> {
         self.bench.protocol().message(place)
+    }
+
+    fn situation(&mut self, holds: bool, row: &str) {
+        self.table.add_if(holds, "situations", row);
     }
 
     fn buffers(&self, core: u8) -> bool {
@@ -85,8 +89,8 @@ impl<'a> Watch<'a> {
         }
     }
 
-    fn ended(&mut self, step: Step, ended: Ended, answer: Answer) {
-        let name = name(ended.call);
+    fn ended(&mut self, step: Step, ended: Ended, marked: Marked) {
+        let name = ended.call.name();
         let way = match step {
             Step::Call(_) => "at once",
             Step::Move { .. } => "by a move",
@@ -97,7 +101,7 @@ impl<'a> Watch<'a> {
         };
         let stores = |call: &&Call| matches!(call, Call::Store { address: a, .. } if *a == address);
         let newest = self.ended.iter().rev().find(stores);
-        let row = if answer.races {
+        let row = if marked.races {
             format!("{name} {way}, marked")
         } else if newest.is_some_and(|store| store.core() != core) {
             format!("{name}, another's store handed over")
@@ -117,8 +121,8 @@ impl<'a> Watch<'a> {
         match call {
             Call::Load { address, .. } => {
                 let found = before.entries.contains(&address);
-                self.table.situation(found, "load from an entry");
-                self.table.situation(
+                self.situation(found, "load from an entry");
+                self.situation(
                     waits && beside,
                     "load or store begins with GetLine held back",
                 );
@@ -129,33 +133,26 @@ impl<'a> Watch<'a> {
                 // With a full buffer, the line that is asked for is the oldest entry's.
                 let asked = before.entries.first().unwrap_or(&address) / 8;
                 let held = waits && is_putting(self.message(core * 9 + asked));
-                self.table.situation(found, "store replaces an entry");
-                self.table
-                    .situation(full && !waits, "store into a full buffer, ended at once");
-                self.table
-                    .situation(full && waits, "store into a full buffer, waits");
-                self.table
-                    .situation(held, "load or store begins with GetLine held back");
+                self.situation(found, "store replaces an entry");
+                self.situation(full && !waits, "store into a full buffer, ended at once");
+                self.situation(full && waits, "store into a full buffer, waits");
+                self.situation(held, "load or store begins with GetLine held back");
             }
             Call::Acquire { .. } => {
                 let beside = waits && before.putting;
-                self.table
-                    .situation(beside, "acquire begins beside Put or PutAck");
+                self.situation(beside, "acquire begins beside Put or PutAck");
             }
             Call::Release { core } => {
                 let beside = waits && before.putting;
                 let drains = waits && self.buffers(core);
-                self.table
-                    .situation(beside, "release begins beside Put or PutAck");
-                self.table
-                    .situation(drains, "release with entries, waits for a store");
+                self.situation(beside, "release begins beside Put or PutAck");
+                self.situation(drains, "release with entries, waits for a store");
             }
             Call::Evict { .. } => {
                 let now = line_place(call).and_then(|place| self.message(place));
                 let sends = before.message.is_none() && now == Some(Kind::Put);
-                self.table.situation(sends, "evict sends a Put");
-                self.table
-                    .situation(beside, "evict of an I line with Put or PutAck");
+                self.situation(sends, "evict sends a Put");
+                self.situation(beside, "evict of an I line with Put or PutAck");
             }
         }
     }
@@ -181,23 +178,20 @@ impl<'a> Watch<'a> {
                 } else {
                     "release goes on in a move, release waits below"
                 };
-                self.table.situation(ended.is_none(), row);
+                self.situation(ended.is_none(), row);
             }
             Kind::PutAck | Kind::PutAllAck => {
                 let follows = self.message(place) == Some(Kind::GetLine);
-                self.table
-                    .situation(follows, "GetLine follows in the move of a PutAck");
+                self.situation(follows, "GetLine follows in the move of a PutAck");
                 let left = kind == Kind::PutAllAck && ended.is_none();
-                self.table
-                    .situation(left, "PutAllAck moved, a Put or PutAck is left");
+                self.situation(left, "PutAllAck moved, a Put or PutAck is left");
                 if let Some(call) = ended {
-                    let row = format!("{} ended by a {}", name(call), kind_name(kind));
+                    let row = format!("{} ended by a {}", call.name(), kind_name(kind));
                     self.table.add("situations", &row);
                 }
             }
             Kind::Commit => {
-                self.table
-                    .situation(answered, "Commit answered by PutAllAck");
+                self.situation(answered, "Commit answered by PutAllAck");
                 self.early_commit[usize::from(core)] = !answered;
             }
             Kind::Close => {
@@ -224,7 +218,7 @@ fn line_place(call: Call) -> Option<u8> {
         Call::Evict { line, .. } => line,
         Call::Acquire { .. } | Call::Release { .. } => return None,
     };
-    (call.core() < 8 && line < 8).then_some(call.core() * 9 + line)
+    (call.core() < 8 && line < 8).then(|| call.core() * 9 + line)
 }
 
 fn refusal_row(call: Call, refusal: Refusal, waits: bool) -> String {
@@ -239,18 +233,8 @@ fn refusal_row(call: Call, refusal: Refusal, waits: bool) -> String {
         Refusal::NoSuchAddress if waits => "2 address or line beyond, core waits".into(),
         Refusal::NoSuchAddress if matches!(call, Call::Evict { .. }) => "2 line above 7".into(),
         Refusal::NoSuchAddress => "2 address above 63".into(),
-        Refusal::CoreWaits => format!("3 {}", name(call)),
+        Refusal::CoreWaits => format!("3 {}", call.name()),
         Refusal::PlaceNotOpen => unreachable!("no core call is refused 4"),
-    }
-}
-
-fn name(call: Call) -> &'static str {
-    match call {
-        Call::Load { .. } => "load",
-        Call::Store { .. } => "store",
-        Call::Acquire { .. } => "acquire",
-        Call::Release { .. } => "release",
-        Call::Evict { .. } => "evict",
     }
 }
 

@@ -65,6 +65,6 @@ fn the_text_has_its_form() {
     assert_eq!(text.matches("ending (").count(), 48);
     assert!(text.ends_with("\nreaches = 5 ∷ 95 ∷ 30 ∷ 480 ∷ []\n"));
     assert!(text.lines().all(|line| line.chars().count() <= 140));
-    let first = text.split_once("neat-dues =\n").expect("the first list").1;
+    let first = text.split_once("neat_dues =\n").expect("the first list").1;
     assert!(first.starts_with("    ending ("));
 }

@@ -4,7 +4,9 @@ use crate::bench::Bench;
 use crate::cases;
 use crate::file::{self, Study};
 use crate::neat::Neat;
-use crate::protocol;
+use crate::play::Player;
+use crate::protocol::{self, Bottom, Stack};
+use crate::random::Random;
 use crate::step::{Call, Ended, Outcome, Step};
 
 const CASES: u64 = 2_000;
@@ -64,11 +66,11 @@ fn check_waiting(bench: &Bench, pending: &[Option<Call>; 8]) {
     }
 }
 
-fn check_study(study: &Study) {
-    let mut bench = Bench::new(protocol::by_code(study.code).expect("a known code"));
+fn check_study(stack: Stack, steps: &[Step]) {
+    let mut bench = Bench::new(stack.cleared());
     let mut ended = Vec::new();
     let mut pending = [None; 8];
-    for (position, &step) in study.steps.iter().enumerate() {
+    for (position, &step) in steps.iter().enumerate() {
         let first_race = bench.log().first_race();
         let answer = bench.step(step);
         match (step, answer.outcome) {
@@ -97,7 +99,22 @@ fn check_study(study: &Study) {
 
 #[test]
 fn the_guarantee_holds() {
-    studies().for_each(|study| check_study(&study));
+    for study in studies() {
+        let stack = Stack::of_code(study.code).expect("a known code");
+        check_study(stack, &study.steps);
+    }
+}
+
+#[test]
+fn the_guarantee_holds_over_two_buffers() {
+    for number in 0..500 {
+        let random = &mut Random::of_case(8, number);
+        let bottom = random.one_of(&[Bottom::Neat, Bottom::Mesi]);
+        let stack = Stack { bottom, buffers: 2 };
+        let mut player = Player::new(random, stack, 5);
+        player.play(80);
+        check_study(stack, &player.steps);
+    }
 }
 
 #[test]

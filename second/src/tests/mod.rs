@@ -1,6 +1,7 @@
 //! The worked examples of the documents, by page, and what holds of every generated study.
 
 mod buffer;
+mod facts;
 mod files;
 mod generated;
 mod guarantee;
@@ -8,6 +9,8 @@ mod mesi;
 mod model;
 mod neat;
 mod races;
+mod requests;
+mod speed;
 
 use crate::bench::Bench;
 use crate::file::{self, Study};
