@@ -391,7 +391,6 @@ mod tests {
         prints(&rt, StoreBuffer::new(Neat::new()), &study);
     }
 
-    // A drain that waits in its middle, through two buffers: settling ends it, and the image has both bytes.
     // Room for more than four times reach under each protocol here; the largest is 95, of a buffer over Neat.
     fn hands_over<P: Protocol + Drop>(rt: &impl Abort, protocol: P) {
         let mut outcomes = [Outcome::Waits; 400];
@@ -410,6 +409,7 @@ mod tests {
         hands_over(&rt, StoreBuffer::new(Neat::new()));
     }
 
+    // A drain that waits in its middle, through two buffers: settling ends it, and the image has both bytes.
     #[test]
     fn two_buffers_drain_through_neat(rt: HostRuntime) {
         let mut bench = Bench::new(StoreBuffer::new(StoreBuffer::new(Neat::new())));
