@@ -10,15 +10,19 @@ line_of a = a / 8
 abbrev pub offset_of : ℕ → ℕ
 offset_of a = a % 8
 
+-- A number below a limit, or the refusal of one that is not.
+abbrev pub named_below : ℕ → Refusal → ℕ → Result ℕ Refusal
+named_below k e n = cond (nat_le k n) (Err e) (Ok n)
+
 -- Cores are 0 to 7, addresses 0 to 63, lines 0 to 7.
 abbrev pub core_named : ℕ → Result ℕ Refusal
-core_named c = cond (nat_le 8 c) (Err NoSuchCore) (Ok c)
+core_named = named_below 8 NoSuchCore
 
 abbrev pub address_named : ℕ → Result ℕ Refusal
-address_named a = cond (nat_le 64 a) (Err NoSuchAddress) (Ok a)
+address_named = named_below 64 NoSuchAddress
 
 abbrev pub line_named : ℕ → Result ℕ Refusal
-line_named l = cond (nat_le 8 l) (Err NoSuchAddress) (Ok l)
+line_named = named_below 8 NoSuchAddress
 
 -- A result by the number of what it holds.
 abbrev pub numbered : {X : Type 0} → (X → ℕ) → Result X Refusal → Result ℕ Refusal

@@ -1,5 +1,5 @@
 -- What a step and an ended call name.
-use Rattle.std.specs.Prelude.{ℕ, ◌<◌}
+use Rattle.std.specs.Prelude.{ℕ, ◌<◌, Option, Some, None}
 use Rattle.protocol.specs.declared.steps.Step.{Step}
 use Rattle.protocol.specs.declared.steps.Step.TheVariants.{Load, Store, Acquire, Release, Evict, Move}
 use Rattle.protocol.specs.declared.steps.Ended.{Ended}
@@ -29,6 +29,15 @@ caller (Acquire c) = c
 caller (Release c) = c
 caller (Evict c l) = c
 caller (Move p) = 0
+
+-- The core of a core call, or none for a move.
+abbrev pub core_in : Step → Option ℕ
+core_in (Load c a) = Some c
+core_in (Store c a b) = Some c
+core_in (Acquire c) = Some c
+core_in (Release c) = Some c
+core_in (Evict c l) = Some c
+core_in (Move p) = None
 
 -- Every field is a byte.
 abbrev pub Fit : Step → Type 0

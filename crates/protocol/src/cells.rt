@@ -1,7 +1,7 @@
 //! Cores, addresses, lines and offsets that are known to be in range.
 
-ghost use Rattle.std.specs.Prelude.{◌≡◌, ◌/◌, ◌%◌, ◌<◌};
-ghost use Rattle.protocol.specs.Cells.{core_named, address_named, line_named, line_of, offset_of, numbered};
+ghost use Rattle.std.specs.Prelude.{◌≡◌, ◌/◌, ◌%◌, ◌<◌, IfOk};
+ghost use Rattle.protocol.specs.Cells.{core_named, address_named, line_named, line_of, offset_of, numbered, named_below};
 
 use crate::steps::Refusal;
 
@@ -12,46 +12,110 @@ const ADDRESSES: u8 = 64;
 
 const LINES: u8 = 8;
 
+// Core, Address, Line and Offset are four structs and not one generic struct over a kind: that needs a trait, four types that name the
+// kinds, an `impl` for each, and `Clone` by hand, as none is derived over a ghost field with a parameter.
+
 /// A core, 0 to 7.
-#[derive(Clone, Copy)]
+#[derive(Clone, Copy, PartialEq, Eq, Debug)]
 pub struct Core {
     number: u8,
     ghost in_range: { number < 8 },
 }
 
 /// An address, 0 to 63, of one byte.
-#[derive(Clone, Copy)]
+#[derive(Clone, Copy, PartialEq, Eq, Debug)]
 pub struct Address {
     number: u8,
     ghost in_range: { number < 64 },
 }
 
 /// A line, 0 to 7, of eight bytes.
-#[derive(Clone, Copy)]
+#[derive(Clone, Copy, PartialEq, Eq, Debug)]
 pub struct Line {
     number: u8,
     ghost in_range: { number < 8 },
 }
 
 /// A byte's place in its line, 0 to 7.
-#[derive(Clone, Copy)]
+#[derive(Clone, Copy, PartialEq, Eq, Debug)]
 pub struct Offset {
     number: u8,
     ghost in_range: { number < 8 },
 }
 
-impl Core {
-    /// The core of that number, or the refusal of a number above 7.
-    pub fn new(number: u8) -> Result<Core, Refusal>
-        ensures { numbered (λ x. x.number) result ≡ core_named number }
-    {
-        if number < CORES {
-            Ok(Core { number })
-        } else {
-            Err(Refusal::NoSuchCore)
-        }
+/// The number, or the refusal of one that is not below the limit.
+fn below(limit: u8, number: u8, refusal: Refusal) -> Result<u8, Refusal>
+    ensures value { result ≡ named_below limit refusal number }
+    ensures in_range { IfOk result (λ n. n < limit) }
+{
+    if number < limit {
+        Ok(number)
+    } else {
+        Err(refusal)
     }
+}
 
+impl TryFrom<u8> for Core {
+    type Error = Refusal;
+
+    ghost try_from_gives = { λ n r. numbered (λ x. x.number) r ≡ core_named n };
+
+    /// The core of that number, or the refusal of a number above 7.
+    fn try_from(number: u8) -> Result<Core, Refusal> {
+        let number = below(CORES, number, Refusal::NoSuchCore)?;
+        Ok(Core { number })
+    }
+}
+
+impl TryFrom<u8> for Address {
+    type Error = Refusal;
+
+    ghost try_from_gives = { λ n r. numbered (λ x. x.number) r ≡ address_named n };
+
+    /// The address of that number, or the refusal of a number above 63.
+    fn try_from(number: u8) -> Result<Address, Refusal> {
+        let number = below(ADDRESSES, number, Refusal::NoSuchAddress)?;
+        Ok(Address { number })
+    }
+}
+
+impl TryFrom<u8> for Line {
+    type Error = Refusal;
+
+    ghost try_from_gives = { λ n r. numbered (λ x. x.number) r ≡ line_named n };
+
+    /// The line of that number, or the refusal of a number above 7.
+    fn try_from(number: u8) -> Result<Line, Refusal> {
+        let number = below(LINES, number, Refusal::NoSuchAddress)?;
+        Ok(Line { number })
+    }
+}
+
+impl From<Core> for u8 {
+    ghost from_gives = { λ core n. n ≡ core.number };
+
+    fn from(core: Core) -> u8 {
+        core.number
+    }
+}
+
+impl From<Address> for u8 {
+    ghost from_gives = { λ address n. n ≡ address.number };
+
+    fn from(address: Address) -> u8 {
+        address.number
+    }
+}
+
+impl From<Line> for u8 {
+    ghost from_gives = { λ line n. n ≡ line.number };
+
+    fn from(line: Line) -> u8 {
+        line.number
+    }
+}
+
+impl Core {
     /// The core's index in a table of cores.
     pub fn index(self) -> usize
         ensures { result ≡ self.number }
@@ -62,17 +126,6 @@ impl Core {
 }
 
 impl Address {
-    /// The address of that number, or the refusal of a number above 63.
-    pub fn new(number: u8) -> Result<Address, Refusal>
-        ensures { numbered (λ x. x.number) result ≡ address_named number }
-    {
-        if number < ADDRESSES {
-            Ok(Address { number })
-        } else {
-            Err(Refusal::NoSuchAddress)
-        }
-    }
-
     /// The line that the address lies in.
     pub fn line(self) -> Line
         ensures { result.number ≡ line_of self.number }
@@ -93,17 +146,6 @@ impl Address {
 }
 
 impl Line {
-    /// The line of that number, or the refusal of a number above 7.
-    pub fn new(number: u8) -> Result<Line, Refusal>
-        ensures { numbered (λ x. x.number) result ≡ line_named number }
-    {
-        if number < LINES {
-            Ok(Line { number })
-        } else {
-            Err(Refusal::NoSuchAddress)
-        }
-    }
-
     /// The line's index in a table of lines.
     pub fn index(self) -> usize
         ensures { result ≡ self.number }

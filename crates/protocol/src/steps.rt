@@ -2,6 +2,7 @@
 
 ghost use Rattle.std.specs.Prelude.{◌≡◌};
 ghost use Rattle.protocol.specs.Refusals.{refusal_number};
+ghost use Rattle.protocol.specs.Steps.{call_of, core_in, core_of};
 
 /// One step of a study. Any byte may stand in a field: what is out of range is refused.
 #[derive(Clone, Copy, PartialEq, Eq, Debug)]
@@ -52,16 +53,70 @@ pub enum Reply {
     Finished(Ended),
 }
 
-impl Refusal {
-    /// The number by which a report names the refusal.
-    pub fn number(self) -> u8
-        ensures { result ≡ refusal_number self }
-    {
-        match self {
+/// The number by which a report names a refusal.
+impl From<Refusal> for u8 {
+    ghost from_gives = { λ refusal n. n ≡ refusal_number refusal };
+
+    fn from(refusal: Refusal) -> u8 {
+        match refusal {
             Refusal::NoSuchCore => 1,
             Refusal::NoSuchAddress => 2,
             Refusal::CoreWaits => 3,
             Refusal::PlaceNotOpen => 4,
+        }
+    }
+}
+
+/// The call that has ended.
+impl From<Ended> for Step {
+    ghost from_gives = { λ call step. step ≡ call_of call };
+
+    fn from(call: Ended) -> Step {
+        match call {
+            Ended::Loaded { core, address, .. } => Step::Load { core, address },
+            Ended::Stored {
+                core,
+                address,
+                byte,
+            } => Step::Store {
+                core,
+                address,
+                byte,
+            },
+            Ended::Acquired { core } => Step::Acquire { core },
+            Ended::Released { core } => Step::Release { core },
+            Ended::Evicted { core, line } => Step::Evict { core, line },
+        }
+    }
+}
+
+impl Step {
+    /// The core of a core call; a move has none.
+    pub fn core(self) -> Option<u8>
+        ensures { result ≡ core_in self }
+    {
+        match self {
+            Step::Load { core, .. }
+            | Step::Store { core, .. }
+            | Step::Acquire { core }
+            | Step::Release { core }
+            | Step::Evict { core, .. } => Some(core),
+            Step::Move { .. } => None,
+        }
+    }
+}
+
+impl Ended {
+    /// The core of the call.
+    pub fn core(self) -> u8
+        ensures { result ≡ core_of self }
+    {
+        match self {
+            Ended::Loaded { core, .. }
+            | Ended::Stored { core, .. }
+            | Ended::Acquired { core }
+            | Ended::Released { core }
+            | Ended::Evicted { core, .. } => core,
         }
     }
 }
