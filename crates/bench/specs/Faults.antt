@@ -21,6 +21,10 @@ layer_number Reader = 1
 layer_number Plan = 2
 layer_number Caller = 3
 
+-- The fault that a layer finds at a place.
+abbrev pub fault_of : Layer → Cause → ℕ → Fault
+fault_of l e p = record { cause = e; place = p; layer = l }
+
 -- Fewer outcomes than steps: cause 12, place 0, layer 3.
 abbrev pub few_outcomes : Fault
 few_outcomes = record { cause = TooFewOutcomes; place = 0; layer = Caller }

@@ -1,7 +1,7 @@
 //! What is wrong with a file, or with the room that a caller gives.
 
 ghost use Rattle.std.specs.Prelude.{◌≡◌};
-ghost use Rattle.bench.specs.Faults.{cause_number, layer_number};
+ghost use Rattle.bench.specs.Faults.{cause_number, layer_number, fault_of};
 
 /// Why a file or a call is turned down whole.
 #[derive(Clone, Copy, PartialEq, Eq, Debug)]
@@ -41,12 +41,12 @@ pub struct Fault {
     pub layer: Layer,
 }
 
-impl Cause {
-    /// The number by which a report names the cause.
-    pub fn number(self) -> u8
-        ensures { result ≡ cause_number self }
-    {
-        match self {
+/// The number by which a report names a cause.
+impl From<Cause> for u8 {
+    ghost from_gives = { λ cause n. n ≡ cause_number cause };
+
+    fn from(cause: Cause) -> u8 {
+        match cause {
             Cause::CutShort => 5,
             Cause::UnknownKind => 6,
             Cause::WrongLength => 7,
@@ -59,15 +59,28 @@ impl Cause {
     }
 }
 
-impl Layer {
-    /// The number by which a report names the layer.
-    pub fn number(self) -> u8
-        ensures { result ≡ layer_number self }
-    {
-        match self {
+/// The number by which a report names a layer.
+impl From<Layer> for u8 {
+    ghost from_gives = { λ layer n. n ≡ layer_number layer };
+
+    fn from(layer: Layer) -> u8 {
+        match layer {
             Layer::Reader => 1,
             Layer::Plan => 2,
             Layer::Caller => 3,
+        }
+    }
+}
+
+impl Layer {
+    /// The fault that the layer finds at a place.
+    pub fn fault(self, cause: Cause, place: u16) -> Fault
+        ensures { result ≡ fault_of self cause place }
+    {
+        Fault {
+            cause,
+            place,
+            layer: self,
         }
     }
 }

@@ -67,10 +67,10 @@ impl Protocol for Mesi {
     }
 
     fn load(&mut self, core: u8, address: u8) -> Reply {
-        let Ok(loader) = Core::new(core) else {
+        let Ok(loader) = Core::try_from(core) else {
             return Reply::Refused(Refusal::NoSuchCore);
         };
-        let Ok(at) = Address::new(address) else {
+        let Ok(at) = Address::try_from(address) else {
             return Reply::Refused(Refusal::NoSuchAddress);
         };
         let byte = self.load_byte(loader, at);
@@ -82,10 +82,10 @@ impl Protocol for Mesi {
     }
 
     fn store(&mut self, core: u8, address: u8, byte: u8) -> Reply {
-        let Ok(storer) = Core::new(core) else {
+        let Ok(storer) = Core::try_from(core) else {
             return Reply::Refused(Refusal::NoSuchCore);
         };
-        let Ok(at) = Address::new(address) else {
+        let Ok(at) = Address::try_from(address) else {
             return Reply::Refused(Refusal::NoSuchAddress);
         };
         self.store_byte(storer, at, byte);
@@ -97,24 +97,24 @@ impl Protocol for Mesi {
     }
 
     fn acquire(&mut self, core: u8) -> Reply {
-        match Core::new(core) {
+        match Core::try_from(core) {
             Err(refusal) => Reply::Refused(refusal),
             Ok(_) => Reply::Ended(Ended::Acquired { core }),
         }
     }
 
     fn release(&mut self, core: u8) -> Reply {
-        match Core::new(core) {
+        match Core::try_from(core) {
             Err(refusal) => Reply::Refused(refusal),
             Ok(_) => Reply::Ended(Ended::Released { core }),
         }
     }
 
     fn evict(&mut self, core: u8, line: u8) -> Reply {
-        let Ok(evictor) = Core::new(core) else {
+        let Ok(evictor) = Core::try_from(core) else {
             return Reply::Refused(Refusal::NoSuchCore);
         };
-        let Ok(gone) = Line::new(line) else {
+        let Ok(gone) = Line::try_from(line) else {
             return Reply::Refused(Refusal::NoSuchAddress);
         };
         self.evict_line(evictor, gone);
@@ -126,7 +126,7 @@ impl Protocol for Mesi {
     }
 
     fn image(&self, address: u8) -> Result<u8, Refusal> {
-        let at = Address::new(address)?;
+        let at = Address::try_from(address)?;
         Ok(self.home_byte(at))
     }
 

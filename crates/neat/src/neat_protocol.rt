@@ -43,7 +43,7 @@ impl Neat {
     fn is_quiet_from(&self, number: u8) -> bool
         ensures { result ≡ true → (number < 64) × (next_open (as_state self.now.caches) number ≡ next_open (as_state self.now.caches) (number + 9)) }
     {
-        match Core::new(number / 9) {
+        match Core::try_from(number / 9) {
             Ok(core) if number % 9 == 0 => self.caches.is_quiet(core),
             _ => false,
         }
@@ -62,10 +62,10 @@ impl Protocol for Neat {
     }
 
     fn load(&mut self, core: u8, address: u8) -> Reply {
-        let Ok(core) = Core::new(core) else {
+        let Ok(core) = Core::try_from(core) else {
             return Reply::Refused(Refusal::NoSuchCore);
         };
-        let Ok(address) = Address::new(address) else {
+        let Ok(address) = Address::try_from(address) else {
             return Reply::Refused(Refusal::NoSuchAddress);
         };
         if self.caches.waits(core) {
@@ -75,10 +75,10 @@ impl Protocol for Neat {
     }
 
     fn store(&mut self, core: u8, address: u8, byte: u8) -> Reply {
-        let Ok(core) = Core::new(core) else {
+        let Ok(core) = Core::try_from(core) else {
             return Reply::Refused(Refusal::NoSuchCore);
         };
-        let Ok(address) = Address::new(address) else {
+        let Ok(address) = Address::try_from(address) else {
             return Reply::Refused(Refusal::NoSuchAddress);
         };
         if self.caches.waits(core) {
@@ -88,7 +88,7 @@ impl Protocol for Neat {
     }
 
     fn acquire(&mut self, core: u8) -> Reply {
-        let Ok(core) = Core::new(core) else {
+        let Ok(core) = Core::try_from(core) else {
             return Reply::Refused(Refusal::NoSuchCore);
         };
         if self.caches.waits(core) {
@@ -98,7 +98,7 @@ impl Protocol for Neat {
     }
 
     fn release(&mut self, core: u8) -> Reply {
-        let Ok(core) = Core::new(core) else {
+        let Ok(core) = Core::try_from(core) else {
             return Reply::Refused(Refusal::NoSuchCore);
         };
         if self.caches.waits(core) {
@@ -108,10 +108,10 @@ impl Protocol for Neat {
     }
 
     fn evict(&mut self, core: u8, line: u8) -> Reply {
-        let Ok(core) = Core::new(core) else {
+        let Ok(core) = Core::try_from(core) else {
             return Reply::Refused(Refusal::NoSuchCore);
         };
-        let Ok(line) = Line::new(line) else {
+        let Ok(line) = Line::try_from(line) else {
             return Reply::Refused(Refusal::NoSuchAddress);
         };
         if self.caches.waits(core) {
@@ -131,7 +131,7 @@ impl Protocol for Neat {
     }
 
     fn image(&self, address: u8) -> Result<u8, Refusal> {
-        let address = Address::new(address)?;
+        let address = Address::try_from(address)?;
         Ok(self.caches.byte(address))
     }
 

@@ -16,10 +16,10 @@ pub enum Place {
 pub fn locate(number: u8) -> Option<Place>
     ensures { located result ≡ place_at number }
 {
-    let Ok(core) = Core::new(number / 9) else {
+    let Ok(core) = Core::try_from(number / 9) else {
         return None;
     };
-    match Line::new(number % 9) {
+    match Line::try_from(number % 9) {
         Ok(line) => Some(Place::Line(core, line)),
         Err(_) => Some(Place::Close(core)),
     }

@@ -17,9 +17,9 @@ fn two_digits(n: u8) -> [u8; 2]
 pub fn fault_line(fault: Fault) -> [u8; 29]
     ensures { result ≡ fault_line fault }
 {
-    let [x, y] = two_digits(fault.cause.number());
+    let [x, y] = two_digits(u8::from(fault.cause));
     let [a, b, c, d, e] = decimal_digits(fault.place);
-    let layer = b'0' + fault.layer.number();
+    let layer = b'0' + u8::from(fault.layer);
     [
         b'f', b'a', b'u', b'l', b't', b' ', x, y, b' ', b'p', b'l', b'a', b'c', b'e', b' ', a, b,
         c, d, e, b' ', b'l', b'a', b'y', b'e', b'r', b' ', layer, b'\n',

@@ -109,7 +109,7 @@ fn access_races(newest: &[Newest; 64], core: u8, address: u8) -> bool
         return false;
     }
     let entry = newest[address as usize];
-    match Core::new(core) {
+    match Core::try_from(core) {
         Ok(core) => entry.races(core),
         Err(_) => false,
     }
@@ -149,7 +149,7 @@ impl RaceTable {
                 }
             }
             Ended::Acquired { core } => {
-                if let Ok(core) = Core::new(core) {
+                if let Ok(core) = Core::try_from(core) {
                     acquire(&mut self.newest, core);
                 }
             }

@@ -117,7 +117,7 @@ fn refusal_shown(outcome: Outcome) -> [u8; 2]
     ensures { result ≡ refusal_shown outcome }
 {
     match outcome {
-        Outcome::Refused(refusal) => [b'0', b'0' + refusal.number()],
+        Outcome::Refused(refusal) => [b'0', b'0' + u8::from(refusal)],
         _ => [b'0', b'0'],
     }
 }

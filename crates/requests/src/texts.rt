@@ -89,7 +89,7 @@ impl Text {
             }
             Err(refusal) => {
                 self.put(b"image refused 0")?;
-                self.small(refusal.number())?;
+                self.small(u8::from(refusal))?;
             }
         }
         self.put(b"\n")

@@ -36,7 +36,7 @@ fn unless_waiting(buffers: &[CoreBuffer; 8], core: Core) -> Result<Core, Refusal
 fn admit(buffers: &[CoreBuffer; 8], core: u8) -> Result<Core, Refusal>
     ensures { numbered (λ x. x.number) result ≡ admitted (turned_down (buffers_of buffers.now) (Acquire core)) core }
 {
-    let core = Core::new(core)?;
+    let core = Core::try_from(core)?;
     unless_waiting(buffers, core)
 }
 
@@ -44,8 +44,8 @@ fn admit(buffers: &[CoreBuffer; 8], core: u8) -> Result<Core, Refusal>
 fn admit_at(buffers: &[CoreBuffer; 8], core: u8, address: u8) -> Result<Core, Refusal>
     ensures { numbered (λ x. x.number) result ≡ admitted (turned_down (buffers_of buffers.now) (Load core address)) core }
 {
-    let core = Core::new(core)?;
-    let _ = Address::new(address)?;
+    let core = Core::try_from(core)?;
+    let _ = Address::try_from(address)?;
     unless_waiting(buffers, core)
 }
 
@@ -53,8 +53,8 @@ fn admit_at(buffers: &[CoreBuffer; 8], core: u8, address: u8) -> Result<Core, Re
 fn admit_line(buffers: &[CoreBuffer; 8], core: u8, line: u8) -> Result<Core, Refusal>
     ensures { numbered (λ x. x.number) result ≡ admitted (turned_down (buffers_of buffers.now) (Evict core line)) core }
 {
-    let core = Core::new(core)?;
-    let _ = Line::new(line)?;
+    let core = Core::try_from(core)?;
+    let _ = Line::try_from(line)?;
     unless_waiting(buffers, core)
 }
 
@@ -161,7 +161,7 @@ impl<P: Protocol> Protocol for StoreBuffer<P> {
     fn move_message(&mut self, place: u8) -> Reply {
         let reply = self.below.move_message(place);
         match reply {
-            Reply::Finished(ended) => match Core::new(core_of(ended)) {
+            Reply::Finished(ended) => match Core::try_from(core_of(ended)) {
                 Err(_) => reply,
                 Ok(caller) => {
                     let mut buffer = self.buffers[caller.index()];

@@ -8,5 +8,5 @@ invariant_of-self c =
     record {
       reached =
           reached_step (as_state c.args.self.now.caches) (Evict c.args.core c.args.line) (c.evict.result, as_state c.evict.new.self) (c.ranges.core.fits, c.ranges.line.fits) c.args.self.now.reached
-          (evict_step (as_state c.args.self.now.caches) c.args.core c.in-Ok.core.number c.in-Ok.ensures c.if-waits.ensures c.args.line c.in-Ok-new.line.number (c.evict.result, as_state c.evict.new.self) c.in-Ok-new.ensures c.evict.ensures);
+          (evict_step (as_state c.args.self.now.caches) c.args.core c.in-Ok.core.number c.in-Ok.ensures c.if-waits.ensures c.args.line c.in-Ok-try_from.line.number (c.evict.result, as_state c.evict.new.self) c.in-Ok-try_from.ensures c.evict.ensures);
     }

@@ -8,5 +8,5 @@ invariant_of-self c =
     record {
       reached =
           reached_step (as_state c.args.self.now.caches) (Store c.args.core c.args.address c.args.byte) (c.store.result, as_state c.store.new.self) (c.ranges.core.fits, c.ranges.address.fits, c.ranges.byte.fits) c.args.self.now.reached
-          (store_step (as_state c.args.self.now.caches) c.args.core c.in-Ok.core.number c.in-Ok.ensures c.if-waits.ensures c.args.address c.in-Ok-new.address.number c.args.byte (c.store.result, as_state c.store.new.self) c.in-Ok-new.ensures c.store.ensures);
+          (store_step (as_state c.args.self.now.caches) c.args.core c.in-Ok.core.number c.in-Ok.ensures c.if-waits.ensures c.args.address c.in-Ok-try_from.address.number c.args.byte (c.store.result, as_state c.store.new.self) c.in-Ok-try_from.ensures c.store.ensures);
     }
