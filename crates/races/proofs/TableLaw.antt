@@ -1,89 +1,75 @@
 -- The race table is a summary of the ended calls: it answers the race rule, and its two numbers are the log's.
-use Rattle.std.proofs.Common.{◌≡◌, ℕ, ◌<◌, Bool, true, false, cond, not, ◌&&◌, ◌||◌, eqb, ltb, ◌⊎◌, List, [], ◌∷◌, map, length, get_or, set, is_some, Some, None, Option, sym, refl, ap, ◌∙◌, subst, inl, inr, ⊎_elim, arith}
+use Rattle.std.proofs.Common.{◌≡◌, ℕ, ◌<◌, Bool, true, false, cond, not, ◌&&◌, ◌||◌, eqb, ltb, ◌⊎◌, List, [], ◌∷◌, map, length, get_or, set, replicate, is_some, Some, None, Option, unwrap_or, option_map, sym, refl, ap, ◌∙◌, subst, inl, inr, ⊎_elim, arith}
 use Rattle.std.proofs.lemmas.List.{get_or-set_same, get_or-set_other, get_or-map, get_or-replicate, length-set, length-map}
-use Rattle.std.proofs.lemmas.Bool.{cases_eq, eq-eqb, ne_eqb, lt-ltb, cases_Bool, true≢false, false≢true, or_parts, or_cases}
+use Rattle.std.proofs.lemmas.Bool.{cases_eq, eq-eqb, ne_eqb, lt-ltb, true≢false, false≢true, or_parts, or_cases}
 use Rattle.protocol.specs.declared.steps.Ended.{Ended}
 use Rattle.protocol.specs.declared.steps.Ended.TheVariants.{Loaded, Stored, Acquired, Released, Evicted}
 use Rattle.races.specs.declared.table.Newest.{Newest}
-use Rattle.races.specs.Races.{Written, newest, since, released, handed_over, else_earlier, races, races_with, any_race, first_race, number, first_number}
-use Rattle.races.specs.Table.{none_yet, stored_by, is_core, released_by, acquired_by, entry_races, storer_races, stores_after, table_races, first_after, table_of}
+use Rattle.races.specs.Races.{Written, newest, since, releases, acquires, released, handed_over, else_earlier, races, races_with, any_race, first_race, number, first_number}
+use Rattle.races.specs.Table.{none_yet, stored_by, released_by, acquired_by, has_acquired, entry_races, stores_after, table_races, first_after, table_of}
 
--- What the log says of the newest store to an address.
-abbrev storer_of : Option Written → Option ℕ
-storer_of None = None
-storer_of (Some w) = Some w.core
+-- There is room for each core's acquires.
+abbrev HasRoom : Option (List Bool) → Type 0
+HasRoom None = Unit {0}
+HasRoom (Some acquired) = length acquired ≡ 8
 
-abbrev has_released : Option Written → List Ended → Bool
-has_released None l = false
-has_released (Some w) l = released w.core l
+-- What the table keeps of a store is a summary of the store and the calls since.
+record Summary (e : Newest) (w : Written) (l : List Ended) : Type 0 where
+  storer : e.storer ≡ w.core
+  rel : is_some e.acquired ≡ released w.core l
+  acq : (c : ℕ) → c < 8 → has_acquired c e.acquired ≡ handed_over w.core c l
+  long : HasRoom e.acquired
 
-abbrev has_handed : Option Written → ℕ → List Ended → Bool
-has_handed None c l = false
-has_handed (Some w) c l = handed_over w.core c l
+-- An entry is a summary of the newest store, or there is neither.
+abbrev SumsUp : Option Newest → Option Written → List Ended → Type 0
+SumsUp None None l = Unit {0}
+SumsUp None (Some w) l = ⊥
+SumsUp (Some e) None l = ⊥
+SumsUp (Some e) (Some w) l = Summary e w l
 
--- An entry is a summary of the newest store and the calls since.
-record SumsUp (e : Newest) (o : Option Written) (l : List Ended) : Type 0 where
-  storer : e.storer ≡ storer_of o
-  rel : e.released ≡ has_released o l
-  acq : (c : ℕ) → c < 8 → get_or e.acquired c false ≡ has_handed o c l
-  long : length e.acquired ≡ 8
-
--- A load or an evict adds nothing.
-after_load : (c a b : ℕ) (e : Newest) (o : Option Written) (l : List Ended) → SumsUp e o l → SumsUp e o (Loaded c a b ∷ l)
-after_load c a b e None l h = record { storer = h.storer; rel = h.rel; acq = h.acq; long = h.long }
-after_load c a b e (Some w) l h = record { storer = h.storer; rel = h.rel; acq = h.acq; long = h.long }
-
-after_evict : (c n : ℕ) (e : Newest) (o : Option Written) (l : List Ended) → SumsUp e o l → SumsUp e o (Evicted c n ∷ l)
-after_evict c n e None l h = record { storer = h.storer; rel = h.rel; acq = h.acq; long = h.long }
-after_evict c n e (Some w) l h = record { storer = h.storer; rel = h.rel; acq = h.acq; long = h.long }
-
--- A store to another address adds nothing.
-after_store : (c a b : ℕ) (e : Newest) (o : Option Written) (l : List Ended) → SumsUp e o l → SumsUp e o (Stored c a b ∷ l)
-after_store c a b e None l h = record { storer = h.storer; rel = h.rel; acq = h.acq; long = h.long }
-after_store c a b e (Some w) l h = record { storer = h.storer; rel = h.rel; acq = h.acq; long = h.long }
+-- A call that is no release and no acquire adds nothing.
+adds_nothing : (x : Ended) (e : Option Newest) (o : Option Written) (l : List Ended) → ((d : ℕ) → releases d x ≡ false) → ((c : ℕ) → acquires c x ≡ false) → SumsUp e o l → SumsUp e o (x ∷ l)
+adds_nothing x None None l r a h = tt
+adds_nothing x None (Some w) l r a h = absurd h
+adds_nothing x (Some e) None l r a h = absurd h
+adds_nothing x (Some e) (Some w) l r a h =
+    record {
+      storer = h.storer;
+      rel = h.rel ∙ ap (λ (t : Bool). t || released w.core l) (sym (r w.core));
+      acq = λ c k. h.acq c k ∙ ap (λ (t : Bool). (t && released w.core l) || handed_over w.core c l) (sym (a c));
+      long = h.long;
+    }
 
 -- A new store begins anew.
-fresh_store : (c b : ℕ) → SumsUp (stored_by c) (Some (record { core = c; byte = b })) []
-fresh_store c b = record { storer = refl; rel = refl; acq = λ d h. get_or-replicate 8 d false false h; long = refl }
+fresh_store : (c b : ℕ) → SumsUp (Some (stored_by c)) (Some (record { core = c; byte = b })) []
+fresh_store c b = record { storer = refl; rel = refl; acq = λ d h. refl; long = tt }
 
-no_store : SumsUp none_yet None []
-no_store = record { storer = refl; rel = refl; acq = λ d h. get_or-replicate 8 d false false h; long = refl }
+-- A release counts if it is the storer's: nothing has been acquired after the first.
+acquired_so_far : (o : Option (List Bool)) (c : ℕ) → c < 8 → get_or (unwrap_or o (replicate 8 false)) c false ≡ has_acquired c o
+acquired_so_far None c h = get_or-replicate 8 c false false h
+acquired_so_far (Some acquired) c h = refl
 
--- A release counts if it is the storer's.
-release_rel : (c d : ℕ) (r x : Bool) → r ≡ x → (t : Bool) → eqb d c ≡ t → cond t true r ≡ (eqb d c || x)
-release_rel c d r x h true q = ap (λ (z : Bool). z || x) (sym q)
-release_rel c d r x h false q = h ∙ ap (λ (z : Bool). z || x) (sym q)
+room_so_far : (o : Option (List Bool)) → HasRoom o → length (unwrap_or o (replicate 8 false)) ≡ 8
+room_so_far None h = refl
+room_so_far (Some acquired) h = h
 
-released_fields : (t : Bool) (e : Newest) → ((cond t (record { storer = e.storer; released = true; acquired = e.acquired }) e).storer ≡ e.storer) × ((cond t (record { storer = e.storer; released = true; acquired = e.acquired }) e).released ≡ cond t true e.released) × ((cond t (record { storer = e.storer; released = true; acquired = e.acquired }) e).acquired ≡ e.acquired)
-released_fields true e = (refl, refl, refl)
-released_fields false e = (refl, refl, refl)
-
-after_release : (c : ℕ) (e : Newest) (o : Option Written) (l : List Ended) → SumsUp e o l → SumsUp (released_by c e) o (Released c ∷ l)
-after_release c e None l h =
-    let none : is_core c e.storer ≡ false = ap (is_core c) h.storer in
-    let f = released_fields (is_core c e.storer) e in
+release_adds : (t : Bool) (c : ℕ) (e : Newest) (w : Written) (l : List Ended) → eqb w.core c ≡ t → Summary e w l → Summary (cond t (record { storer = e.storer; acquired = Some (unwrap_or e.acquired (replicate 8 false)) }) e) w (Released c ∷ l)
+release_adds true c e w l q h =
     record {
-      storer = f.0 ∙ h.storer;
-      rel = f.1 ∙ (ap (λ (t : Bool). cond t true e.released) none ∙ h.rel);
-      acq = λ d k. ap (λ (x : List Bool). get_or x d false) f.2 ∙ h.acq d k;
-      long = ap length f.2 ∙ h.long;
+      storer = h.storer;
+      rel = ap (λ (t : Bool). t || released w.core l) (sym q);
+      acq = λ d k. acquired_so_far e.acquired d k ∙ h.acq d k;
+      long = room_so_far e.acquired h.long;
     }
-after_release c e (Some w) l h =
-    let is : is_core c e.storer ≡ eqb w.core c = ap (is_core c) h.storer in
-    let f = released_fields (is_core c e.storer) e in
-    record {
-      storer = f.0 ∙ h.storer;
-      rel = f.1 ∙ (ap (λ (t : Bool). cond t true e.released) is ∙ release_rel c w.core e.released (released w.core l) h.rel (eqb w.core c) refl);
-      acq = λ d k. ap (λ (x : List Bool). get_or x d false) f.2 ∙ h.acq d k;
-      long = ap length f.2 ∙ h.long;
-    }
+release_adds false c e w l q h = record { storer = h.storer; rel = h.rel ∙ ap (λ (t : Bool). t || released w.core l) (sym q); acq = h.acq; long = h.long }
+
+after_release : (c : ℕ) (e : Option Newest) (o : Option Written) (l : List Ended) → SumsUp e o l → SumsUp (option_map (released_by c) e) o (Released c ∷ l)
+after_release c None None l h = tt
+after_release c None (Some w) l h = absurd h
+after_release c (Some e) None l h = absurd h
+after_release c (Some e) (Some w) l h = release_adds (eqb e.storer c) c e w l (ap (λ (s : ℕ). eqb s c) (sym h.storer)) h
 
 -- An acquire counts if the storer has released.
-acquired_is : (t : Bool) (c : ℕ) (e : Newest) → e.released ≡ t → acquired_by c e ≡ record { storer = e.storer; released = t; acquired = cond t (set e.acquired c true) e.acquired }
-acquired_is true c e q = ap (λ (t : Bool). cond t (record { storer = e.storer; released = true; acquired = set e.acquired c true }) e) q
-acquired_is false c e q =
-    ap (λ (t : Bool). cond t (record { storer = e.storer; released = true; acquired = set e.acquired c true }) e) q ∙ ap {B = Newest} (λ (t : Bool). record { storer = e.storer; released = t; acquired = e.acquired }) q
-
 set_true : (acq : List Bool) (c d : ℕ) (x : Bool) → c < 8 → length acq ≡ 8 → get_or acq d false ≡ x → get_or (set acq c true) d false ≡ ((eqb c d && true) || x)
 set_true acq c d x l n h =
     ⊎_elim
@@ -95,27 +81,30 @@ and_no : (t x : Bool) → x ≡ ((t && false) || x)
 and_no true x = refl
 and_no false x = refl
 
-acquire_acq : (t : Bool) (c d : ℕ) (e : Newest) (w : Written) (l : List Ended) → SumsUp e (Some w) l → c < 8 → d < 8 → e.released ≡ t → get_or (cond t (set e.acquired c true) e.acquired) d false ≡ handed_over w.core d (Acquired c ∷ l)
-acquire_acq true c d e w l h k n q =
-    set_true e.acquired c d (handed_over w.core d l) k h.long (h.acq d n) ∙ ap (λ (x : Bool). (eqb c d && x) || handed_over w.core d l) (sym q ∙ h.rel)
-acquire_acq false c d e w l h k n q =
-    h.acq d n ∙ (and_no (eqb c d) (handed_over w.core d l) ∙ ap (λ (x : Bool). (eqb c d && x) || handed_over w.core d l) (sym q ∙ h.rel))
+acquire_adds : (c s : ℕ) (acquired : Option (List Bool)) (w : Written) (l : List Ended) → c < 8 → Summary (record { storer = s; acquired = acquired }) w l → Summary (acquired_by c (record { storer = s; acquired = acquired })) w (Acquired c ∷ l)
+acquire_adds c s None w l k h =
+    record {
+      storer = h.storer;
+      rel = h.rel;
+      acq = λ d n. h.acq d n ∙ (and_no (eqb c d) (handed_over w.core d l) ∙ ap (λ (x : Bool). (eqb c d && x) || handed_over w.core d l) h.rel);
+      long = tt;
+    }
+acquire_adds c s (Some acquired) w l k h =
+    record {
+      storer = h.storer;
+      rel = h.rel;
+      acq = λ d n. set_true acquired c d (handed_over w.core d l) k h.long (h.acq d n) ∙ ap (λ (x : Bool). (eqb c d && x) || handed_over w.core d l) h.rel;
+      long = length-set acquired c true ∙ h.long;
+    }
 
-acquire_long : (t : Bool) (c : ℕ) (e : Newest) → length e.acquired ≡ 8 → length (cond t (set e.acquired c true) e.acquired) ≡ 8
-acquire_long true c e h = length-set e.acquired c true ∙ h
-acquire_long false c e h = h
-
-after_acquire_at : (t : Bool) (c : ℕ) (e : Newest) (o : Option Written) (l : List Ended) → c < 8 → SumsUp e o l → e.released ≡ t → SumsUp (record { storer = e.storer; released = t; acquired = cond t (set e.acquired c true) e.acquired }) o (Acquired c ∷ l)
-after_acquire_at true c e None l k h q = let z : true ≡ false = sym q ∙ h.rel in absurd (true≢false z)
-after_acquire_at false c e None l k h q = record { storer = h.storer; rel = refl; acq = h.acq; long = h.long }
-after_acquire_at true c e (Some w) l k h q = record { storer = h.storer; rel = sym q ∙ h.rel; acq = λ d n. acquire_acq true c d e w l h k n q; long = acquire_long true c e h.long }
-after_acquire_at false c e (Some w) l k h q = record { storer = h.storer; rel = sym q ∙ h.rel; acq = λ d n. acquire_acq false c d e w l h k n q; long = h.long }
-
-after_acquire : (c : ℕ) (e : Newest) (o : Option Written) (l : List Ended) → c < 8 → SumsUp e o l → SumsUp (acquired_by c e) o (Acquired c ∷ l)
-after_acquire c e o l k h = subst (λ (x : Newest). SumsUp x o (Acquired c ∷ l)) (sym (acquired_is e.released c e refl)) (after_acquire_at e.released c e o l k h refl)
+after_acquire : (c : ℕ) (e : Option Newest) (o : Option Written) (l : List Ended) → c < 8 → SumsUp e o l → SumsUp (option_map (acquired_by c) e) o (Acquired c ∷ l)
+after_acquire c None None l k h = tt
+after_acquire c None (Some w) l k h = absurd h
+after_acquire c (Some e) None l k h = absurd h
+after_acquire c (Some e) (Some w) l k h = acquire_adds c e.storer e.acquired w l k h
 
 -- The entry of an address after all the ended calls.
-abbrev entry : ℕ → List Ended → Newest
+abbrev entry : ℕ → List Ended → Option Newest
 entry a xs = get_or (table_of xs).newest a none_yet
 
 -- An ended call's fields are in range.
@@ -130,11 +119,15 @@ abbrev pub AllInRange : List Ended → Type 0
 AllInRange [] = Unit {0}
 AllInRange (x ∷ xs) = InRange x × AllInRange xs
 
-stores_long : (x : Ended) (t : List Newest) → length t ≡ 64 → length (stores_after x t) ≡ 64
+either_long : (t : Bool) (xs ys : List (Option Newest)) → length xs ≡ 64 → length ys ≡ 64 → length (cond t xs ys) ≡ 64
+either_long true xs ys h k = h
+either_long false xs ys h k = k
+
+stores_long : (x : Ended) (t : List (Option Newest)) → length t ≡ 64 → length (stores_after x t) ≡ 64
 stores_long (Loaded c a b) t h = h
-stores_long (Stored c a b) t h = ⊎_elim (λ (q : ltb a 64 ≡ true). ap length (ap (λ (z : Bool). cond z (set t a (stored_by c)) t) q) ∙ (length-set t a (stored_by c) ∙ h)) (λ (q : ltb a 64 ≡ false). ap length (ap (λ (z : Bool). cond z (set t a (stored_by c)) t) q) ∙ h) (cases_Bool (ltb a 64))
-stores_long (Acquired c) t h = ⊎_elim (λ (q : ltb c 8 ≡ true). ap length (ap (λ (z : Bool). cond z (map (acquired_by c) t) t) q) ∙ (length-map t (acquired_by c) ∙ h)) (λ (q : ltb c 8 ≡ false). ap length (ap (λ (z : Bool). cond z (map (acquired_by c) t) t) q) ∙ h) (cases_Bool (ltb c 8))
-stores_long (Released c) t h = length-map t (released_by c) ∙ h
+stores_long (Stored c a b) t h = either_long (ltb a 64) (set t a (Some (stored_by c))) t (length-set t a (Some (stored_by c)) ∙ h) h
+stores_long (Acquired c) t h = either_long (ltb c 8) (map (option_map (acquired_by c)) t) t (length-map t (option_map (acquired_by c)) ∙ h) h
+stores_long (Released c) t h = length-map t (option_map (released_by c)) ∙ h
 stores_long (Evicted c l) t h = h
 
 table_long : (xs : List Ended) → length (table_of xs).newest ≡ 64
@@ -142,49 +135,52 @@ table_long [] = refl
 table_long (x ∷ xs) = stores_long x (table_of xs).newest (table_long xs)
 
 -- Where a store ended, the entry of its own address begins anew, and any other is as it was.
-store_entry_same : (t : List Newest) (c a : ℕ) → a < 64 → length t ≡ 64 → get_or (cond (ltb a 64) (set t a (stored_by c)) t) a none_yet ≡ stored_by c
+store_entry_same : (t : List (Option Newest)) (c a : ℕ) → a < 64 → length t ≡ 64 → get_or (cond (ltb a 64) (set t a (Some (stored_by c))) t) a none_yet ≡ Some (stored_by c)
 store_entry_same t c a k n =
-    ap (λ (z : Bool). get_or (cond z (set t a (stored_by c)) t) a none_yet) (lt-ltb a 64 k) ∙ get_or-set_same t a (stored_by c) none_yet (omega arith)
+    ap (λ (z : Bool). get_or (cond z (set t a (Some (stored_by c))) t) a none_yet) (lt-ltb a 64 k) ∙ get_or-set_same t a (Some (stored_by c)) none_yet (omega arith)
 
-store_entry_other : (t : List Newest) (c e a : ℕ) → e < 64 → (e ≡ a → ⊥) → get_or (cond (ltb e 64) (set t e (stored_by c)) t) a none_yet ≡ get_or t a none_yet
+store_entry_other : (t : List (Option Newest)) (c e a : ℕ) → e < 64 → (e ≡ a → ⊥) → get_or (cond (ltb e 64) (set t e (Some (stored_by c))) t) a none_yet ≡ get_or t a none_yet
 store_entry_other t c e a k n =
-    ap (λ (z : Bool). get_or (cond z (set t e (stored_by c)) t) a none_yet) (lt-ltb e 64 k) ∙ get_or-set_other t e a (stored_by c) none_yet (λ q. n (sym q))
+    ap (λ (z : Bool). get_or (cond z (set t e (Some (stored_by c))) t) a none_yet) (lt-ltb e 64 k) ∙ get_or-set_other t e a (Some (stored_by c)) none_yet (λ q. n (sym q))
 
 -- What the log says after one more call, by the store to this address that the call is, or none.
-abbrev Says : Newest → Ended → ℕ → List Ended → Option Written → Type 0
+abbrev Says : Option Newest → Ended → ℕ → List Ended → Option Written → Type 0
 Says e x a xs o = SumsUp e (else_earlier o (newest a xs)) (cond (is_some o) [] (x ∷ since a xs))
 
 store_says : (c e b a : ℕ) (xs : List Ended) → e < 64 → a < 64 → length (table_of xs).newest ≡ 64 → SumsUp (entry a xs) (newest a xs) (since a xs) → (e ≡ a) ⊎ (e ≡ a → ⊥) → SumsUp (entry a (Stored c e b ∷ xs)) (newest a (Stored c e b ∷ xs)) (since a (Stored c e b ∷ xs))
 store_says c e b a xs k n l h (inl q) =
     let w : Written = record { core = c; byte = b } in
-    let at_e : get_or (table_of (Stored c e b ∷ xs)).newest a none_yet ≡ stored_by c = subst (λ (z : ℕ). get_or (table_of (Stored c e b ∷ xs)).newest z none_yet ≡ stored_by c) q (store_entry_same (table_of xs).newest c e k l) in
+    let at_e : get_or (table_of (Stored c e b ∷ xs)).newest a none_yet ≡ Some (stored_by c) = subst (λ (z : ℕ). get_or (table_of (Stored c e b ∷ xs)).newest z none_yet ≡ Some (stored_by c)) q (store_entry_same (table_of xs).newest c e k l) in
     subst (Says (entry a (Stored c e b ∷ xs)) (Stored c e b) a xs) (ap (λ (t : Bool). cond t (Some w) None) (sym (eq-eqb e a q)))
-    (subst (λ (z : Newest). SumsUp z (Some w) []) (sym at_e) (fresh_store c b))
+    (subst (λ (z : Option Newest). SumsUp z (Some w) []) (sym at_e) (fresh_store c b))
 store_says c e b a xs k n l h (inr q) =
     let w : Written = record { core = c; byte = b } in
     subst (Says (entry a (Stored c e b ∷ xs)) (Stored c e b) a xs) (ap (λ (t : Bool). cond t (Some w) None) (sym (ne_eqb e a q)))
-    (subst (λ (z : Newest). SumsUp z (newest a xs) (Stored c e b ∷ since a xs)) (sym (store_entry_other (table_of xs).newest c e a k q)) (after_store c e b (entry a xs) (newest a xs) (since a xs) h))
+    (subst (λ (z : Option Newest). SumsUp z (newest a xs) (Stored c e b ∷ since a xs)) (sym (store_entry_other (table_of xs).newest c e a k q)) (adds_nothing (Stored c e b) (entry a xs) (newest a xs) (since a xs) (λ d. refl) (λ d. refl) h))
 
-map_entry : (f : Newest → Newest) (t : List Newest) (a : ℕ) → a < 64 → length t ≡ 64 → get_or (map f t) a none_yet ≡ f (get_or t a none_yet)
+map_entry : (f : Option Newest → Option Newest) (t : List (Option Newest)) (a : ℕ) → a < 64 → length t ≡ 64 → get_or (map f t) a none_yet ≡ f (get_or t a none_yet)
 map_entry f t a k n = get_or-map f t a none_yet none_yet (omega arith)
 
 -- Each entry sums up what ended.
 entry_sums_up : (a : ℕ) (xs : List Ended) → a < 64 → AllInRange xs → SumsUp (entry a xs) (newest a xs) (since a xs)
-entry_sums_up a [] k r = subst (λ (z : Newest). SumsUp z None []) (sym (get_or-replicate 64 a none_yet none_yet k)) no_store
-entry_sums_up a (Loaded c e b ∷ xs) k r = after_load c e b (entry a xs) (newest a xs) (since a xs) (entry_sums_up a xs k r.1)
+entry_sums_up a [] k r = subst (λ (z : Option Newest). SumsUp z None []) (sym (get_or-replicate 64 a none_yet none_yet k)) tt
+entry_sums_up a (Loaded c e b ∷ xs) k r = adds_nothing (Loaded c e b) (entry a xs) (newest a xs) (since a xs) (λ d. refl) (λ d. refl) (entry_sums_up a xs k r.1)
 entry_sums_up a (Stored c e b ∷ xs) k r = store_says c e b a xs r.0.1 k (table_long xs) (entry_sums_up a xs k r.1) (cases_eq e a)
 entry_sums_up a (Acquired c ∷ xs) k r =
     let t = (table_of xs).newest in
-    let is : entry a (Acquired c ∷ xs) ≡ acquired_by c (entry a xs) = ap (λ (z : Bool). get_or (cond z (map (acquired_by c) t) t) a none_yet) (lt-ltb c 8 r.0) ∙ map_entry (acquired_by c) t a k (table_long xs) in
-    subst (λ (z : Newest). SumsUp z (newest a xs) (Acquired c ∷ since a xs)) (sym is) (after_acquire c (entry a xs) (newest a xs) (since a xs) r.0 (entry_sums_up a xs k r.1))
+    let is : entry a (Acquired c ∷ xs) ≡ option_map (acquired_by c) (entry a xs) = ap (λ (z : Bool). get_or (cond z (map (option_map (acquired_by c)) t) t) a none_yet) (lt-ltb c 8 r.0) ∙ map_entry (option_map (acquired_by c)) t a k (table_long xs) in
+    subst (λ (z : Option Newest). SumsUp z (newest a xs) (Acquired c ∷ since a xs)) (sym is) (after_acquire c (entry a xs) (newest a xs) (since a xs) r.0 (entry_sums_up a xs k r.1))
 entry_sums_up a (Released c ∷ xs) k r =
-    subst (λ (z : Newest). SumsUp z (newest a xs) (Released c ∷ since a xs)) (sym (map_entry (released_by c) (table_of xs).newest a k (table_long xs))) (after_release c (entry a xs) (newest a xs) (since a xs) (entry_sums_up a xs k r.1))
-entry_sums_up a (Evicted c l ∷ xs) k r = after_evict c l (entry a xs) (newest a xs) (since a xs) (entry_sums_up a xs k r.1)
+    subst (λ (z : Option Newest). SumsUp z (newest a xs) (Released c ∷ since a xs)) (sym (map_entry (option_map (released_by c)) (table_of xs).newest a k (table_long xs))) (after_release c (entry a xs) (newest a xs) (since a xs) (entry_sums_up a xs k r.1))
+entry_sums_up a (Evicted c l ∷ xs) k r = adds_nothing (Evicted c l) (entry a xs) (newest a xs) (since a xs) (λ d. refl) (λ d. refl) (entry_sums_up a xs k r.1)
 
 -- An entry that sums up answers the race rule.
-sums_up_races : (c : ℕ) (e : Newest) (o : Option Written) (l : List Ended) → c < 8 → SumsUp e o l → entry_races c e ≡ races_with c o l
-sums_up_races c e None l k h = ap (λ (x : Option ℕ). storer_races c x e.acquired) h.storer
-sums_up_races c e (Some w) l k h = ap (λ (x : Option ℕ). storer_races c x e.acquired) h.storer ∙ ap (λ (x : Bool). not (eqb w.core c) && not x) (h.acq c k)
+sums_up_races : (c : ℕ) (e : Option Newest) (o : Option Written) (l : List Ended) → c < 8 → SumsUp e o l → entry_races c e ≡ races_with c o l
+sums_up_races c None None l k h = refl
+sums_up_races c None (Some w) l k h = absurd h
+sums_up_races c (Some e) None l k h = absurd h
+sums_up_races c (Some e) (Some w) l k h =
+    ap (λ (s : ℕ). not (eqb s c) && not (has_acquired c e.acquired)) h.storer ∙ ap (λ (x : Bool). not (eqb w.core c) && not x) (h.acq c k)
 
 access_races : (c a : ℕ) (xs : List Ended) → c < 8 → a < 64 → AllInRange xs → (ltb c 8 && entry_races c (entry a xs)) ≡ races_with c (newest a xs) (since a xs)
 access_races c a xs k n r = ap (λ (z : Bool). z && entry_races c (entry a xs)) (lt-ltb c 8 k) ∙ sums_up_races c (entry a xs) (newest a xs) (since a xs) k (entry_sums_up a xs n r)

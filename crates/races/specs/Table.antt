@@ -1,6 +1,6 @@
--- The race table: of each address the newest store's core, whether that core has released since, and which cores have acquired after
--- that; with the count of ended calls and the number of the first race. It is a summary of the ended calls.
-use Rattle.std.specs.Prelude.{ℕ, ◌+◌, min, Bool, true, false, cond, not, ◌&&◌, List, [], ◌∷◌, map, replicate, Some, None, Option, ◌==◌, nat_lt, slice_index_or, slice_set}
+-- The race table: of each address the newest store's core, and once that core has released since, which cores have acquired after that;
+-- with the count of ended calls and the number of the first race. It is a summary of the ended calls.
+use Rattle.std.specs.Prelude.{◌≡◌, ℕ, ◌+◌, min, Bool, true, false, cond, not, ◌&&◌, List, [], ◌∷◌, map, replicate, Some, None, Option, unwrap_or, option_map, ◌==◌, nat_lt, slice_index_or, slice_set}
 use Rattle.protocol.specs.declared.steps.Ended.{Ended}
 use Rattle.protocol.specs.declared.steps.Ended.TheVariants.{Loaded, Stored, Acquired, Released, Evicted}
 use Rattle.protocol.specs.declared.steps.Reply.{Reply}
@@ -12,43 +12,49 @@ use Rattle.races.specs.declared.table.RaceTable.{RaceTable}
 use Rattle.races.specs.Races.{first_number}
 
 -- No store yet.
-abbrev pub none_yet : Newest
-none_yet = record { storer = None; released = false; acquired = replicate 8 false }
+abbrev pub none_yet : Option Newest
+none_yet = None
 
 -- A store by core c has just ended.
 abbrev pub stored_by : ℕ → Newest
-stored_by c = record { storer = Some c; released = false; acquired = replicate 8 false }
+stored_by c = record { storer = c; acquired = None }
 
-abbrev pub is_core : ℕ → Option ℕ → Bool
-is_core c None = false
-is_core c (Some d) = d == c
-
--- A release by core c has ended.
+-- A release by core c has ended: it counts if it is the storer's, and from the first on acquires do.
 abbrev pub released_by : ℕ → Newest → Newest
-released_by c e = cond (is_core c e.storer) (record { storer = e.storer; released = true; acquired = e.acquired }) e
+released_by c e = cond (e.storer == c) (record { storer = e.storer; acquired = Some (unwrap_or e.acquired (replicate 8 false)) }) e
 
 -- An acquire of core c has ended: it counts after a release by the storer.
 abbrev pub acquired_by : ℕ → Newest → Newest
-acquired_by c e = cond e.released (record { storer = e.storer; released = true; acquired = slice_set e.acquired c true }) e
+acquired_by c e = record { storer = e.storer; acquired = option_map (λ acquired. slice_set acquired c true) e.acquired }
 
-abbrev pub storer_races : ℕ → Option ℕ → List Bool → Bool
-storer_races c None acquired = false
-storer_races c (Some d) acquired = not (d == c) && not (slice_index_or acquired c false)
+-- Core c has acquired after a release by the storer.
+abbrev pub has_acquired : ℕ → Option (List Bool) → Bool
+has_acquired c None = false
+has_acquired c (Some acquired) = slice_index_or acquired c false
 
 -- A load or store of core c races with that store.
-abbrev pub entry_races : ℕ → Newest → Bool
-entry_races c e = storer_races c e.storer e.acquired
+abbrev pub store_races : ℕ → Newest → Bool
+store_races c e = not (e.storer == c) && not (has_acquired c e.acquired)
+
+-- The same of the newest store to an address, if there is one.
+abbrev pub entry_races : ℕ → Option Newest → Bool
+entry_races c None = false
+entry_races c (Some e) = store_races c e
+
+-- Every answer is that of f.
+abbrev pub Computes : (Newest → Newest → Type 0) → (Newest → Newest) → Type 0
+Computes answers f = (e r : Newest) → answers e r → r ≡ f e
 
 -- The newest stores after one more ended call. (No call of a core above 7 or an address above 63 ends.)
-abbrev pub stores_after : Ended → List Newest → List Newest
+abbrev pub stores_after : Ended → List (Option Newest) → List (Option Newest)
 stores_after (Loaded c a b) t = t
-stores_after (Stored c a b) t = cond (nat_lt a 64) (slice_set t a (stored_by c)) t
-stores_after (Acquired c) t = cond (nat_lt c 8) (map (acquired_by c) t) t
-stores_after (Released c) t = map (released_by c) t
+stores_after (Stored c a b) t = cond (nat_lt a 64) (slice_set t a (Some (stored_by c))) t
+stores_after (Acquired c) t = cond (nat_lt c 8) (map (option_map (acquired_by c)) t) t
+stores_after (Released c) t = map (option_map (released_by c)) t
 stores_after (Evicted c l) t = t
 
 -- Whether a call races, by the newest stores before it.
-abbrev pub table_races : Ended → List Newest → Bool
+abbrev pub table_races : Ended → List (Option Newest) → Bool
 table_races (Loaded c a b) t = nat_lt c 8 && entry_races c (slice_index_or t a none_yet)
 table_races (Stored c a b) t = nat_lt c 8 && entry_races c (slice_index_or t a none_yet)
 table_races (Acquired c) t = false

@@ -1,7 +1,7 @@
 //! The race table: all that the races still to come depend on, in fixed room.
 
-ghost use Rattle.std.specs.Prelude.{◌≡◌, ◌&&◌, map, nat_lt, slice_index_or};
-ghost use Rattle.races.specs.Table.{none_yet, stored_by, released_by, acquired_by, entry_races, stores_after, table_races, noted, start, marked};
+ghost use Rattle.std.specs.Prelude.{◌≡◌, ◌&&◌, map, nat_lt, option_map, slice_index_or};
+ghost use Rattle.races.specs.Table.{none_yet, stored_by, released_by, acquired_by, has_acquired, store_races, entry_races, Computes, stores_after, table_races, noted, start, marked};
 
 use crate::outcomes::Outcome;
 use protocol::{Core, Ended, Reply};
@@ -10,108 +10,93 @@ use protocol::{Core, Ended, Reply};
 #[derive(Clone, Copy)]
 pub struct Newest {
     /// The core that made it.
-    storer: Option<u8>,
-    /// Whether that core has released since.
-    released: bool,
-    /// Which cores have acquired after that release.
-    acquired: [bool; 8],
+    storer: u8,
+    /// Which cores have acquired since that core released, or none if it has not.
+    acquired: Option<[bool; 8]>,
 }
 
 /// The newest store to each address, how many calls have ended, and the number of the first race.
 #[derive(Clone, Copy)]
 pub struct RaceTable {
-    newest: [Newest; 64],
+    newest: [Option<Newest>; 64],
     /// How many core calls have ended, at most 65,535.
     pub ended: u16,
     /// The number of the first race, or 0.
+    // A number, and no `Option` of one: a report prints it so, 0 for none, and the log's definition says it so.
     pub first_race: u16,
 }
 
 impl Newest {
-    fn none_yet() -> Newest
-        ensures { result ≡ none_yet }
-    {
-        Newest {
-            storer: None,
-            released: false,
-            acquired: [false; 8],
-        }
-    }
-
     fn stored_by(core: u8) -> Newest
         ensures { result ≡ stored_by core }
     {
         Newest {
-            storer: Some(core),
-            released: false,
-            acquired: [false; 8],
+            storer: core,
+            acquired: None,
         }
     }
 
     fn released_by(self, core: u8) -> Newest
         ensures { result ≡ released_by core self }
     {
-        match self.storer {
-            Some(storer) if storer == core => Newest {
-                released: true,
-                ..self
-            },
-            _ => self,
+        if self.storer != core {
+            return self;
+        }
+        Newest {
+            acquired: Some(self.acquired.unwrap_or([false; 8])),
+            ..self
         }
     }
 
     fn acquired_by(self, core: Core) -> Newest
         ensures { result ≡ acquired_by core.number self }
     {
-        if !self.released {
+        let Some(mut acquired) = self.acquired else {
             return self;
-        }
-        let mut acquired = self.acquired;
+        };
         acquired[core.index()] = true;
-        Newest { acquired, ..self }
+        Newest {
+            acquired: Some(acquired),
+            ..self
+        }
+    }
+
+    /// Whether the core has acquired since the storer released.
+    fn has_acquired(self, core: Core) -> bool
+        ensures { result ≡ has_acquired core.number self.acquired }
+    {
+        // No `is_some_and`: the proof learns nothing from a closure that looks into an array.
+        match self.acquired {
+            Some(acquired) => acquired[core.index()],
+            None => false,
+        }
     }
 
     /// Whether a load or store of the core races with the store.
     fn races(self, core: Core) -> bool
-        ensures { result ≡ entry_races core.number self }
+        ensures { result ≡ store_races core.number self }
     {
-        let acquired = self.acquired[core.index()];
-        match self.storer {
-            Some(storer) => storer as usize != core.index() && !acquired,
-            None => false,
-        }
+        self.storer != u8::from(core) && !self.has_acquired(core)
     }
 }
 
-/// A release by the core has ended.
-fn release(newest: &mut [Newest; 64], core: u8)
-    ensures { newest.new ≡ map (released_by core) newest.old }
+/// Changes each newest store.
+fn change_each<F: Fn(Newest) -> Newest>(newest: &mut [Option<Newest>; 64], change: F)
+    requires { F.IsAlwaysCallable change }
+    ensures { (f : _) → Computes (F.post change) f → newest.new ≡ map (option_map f) newest.old }
 {
     for entry in newest.iter_mut() {
-        *entry = entry.released_by(core);
-    }
-}
-
-/// An acquire of the core has ended.
-fn acquire(newest: &mut [Newest; 64], core: Core)
-    ensures { newest.new ≡ map (acquired_by core.number) newest.old }
-{
-    for entry in newest.iter_mut() {
-        *entry = entry.acquired_by(core);
+        *entry = entry.map(&change);
     }
 }
 
 /// Whether a load or store races with the newest store to its address.
-fn access_races(newest: &[Newest; 64], core: u8, address: u8) -> bool
+fn access_races(newest: &[Option<Newest>; 64], core: u8, address: u8) -> bool
     ensures { result ≡ (nat_lt core 8 && entry_races core (slice_index_or newest.now address none_yet)) }
 {
-    if address >= 64 {
-        return false;
-    }
-    let entry = newest[address as usize];
-    match Core::try_from(core) {
-        Ok(core) => entry.races(core),
-        Err(_) => false,
+    match (Core::try_from(core), newest.get(usize::from(address))) {
+        (Ok(core), Some(Some(store))) => store.races(core),
+        _ => false,
     }
 }
 
@@ -121,7 +106,7 @@ impl RaceTable {
         ensures { result ≡ start }
     {
         RaceTable {
-            newest: [Newest::none_yet(); 64],
+            newest: [None; 64],
             ended: 0,
             first_race: 0,
         }
@@ -145,15 +130,18 @@ impl RaceTable {
         match call {
             Ended::Stored { core, address, .. } => {
                 if address < 64 {
-                    self.newest[address as usize] = Newest::stored_by(core);
+                    self.newest[usize::from(address)] = Some(Newest::stored_by(core));
                 }
             }
             Ended::Acquired { core } => {
                 if let Ok(core) = Core::try_from(core) {
-                    acquire(&mut self.newest, core);
+                    change_each(&mut self.newest, |store| store.acquired_by(core));
                 }
             }
-            Ended::Released { core } => release(&mut self.newest, core),
+            Ended::Released { core } => change_each(
+                &mut self.newest,
+                |store| store.released_by(core),
+            ),
             _ => {}
         }
     }
