@@ -1,6 +1,6 @@
 -- A core call that is waited for: the moves of a settling end it, and no other call.
-use Rattle.std.proofs.Common.{◌≡◌, ℕ, ◌+◌, ◌*◌, ◌<◌, ◌≤◌, Bool, true, false, cond, leb, List, [], ◌∷◌, ◌++◌, length, get_or, take, drop, Some, None, Option, sym, refl, ap, ◌∙◌, subst, ⊎_elim, arith}
-use Rattle.std.proofs.lemmas.List.{take_more, take-append-drop, take_at}
+use Rattle.std.proofs.Common.{◌≡◌, ℕ, ◌+◌, ◌*◌, ◌<◌, ◌≤◌, Bool, true, false, cond, leb, List, ◌∷◌, length, take, drop, Some, None, Option, sym, refl, ap, ◌∙◌, subst, ⊎_elim, arith}
+use Rattle.std.proofs.lemmas.List.{take_at}
 use Rattle.std.proofs.lemmas.Bool.{cases_eq, cases_lt, leb-false}
 use Rattle.protocol.specs.declared.steps.Step.{Step}
 use Rattle.protocol.specs.declared.steps.Step.TheVariants.{Load, Store, Acquire, Release, Evict, Move}
@@ -21,35 +21,6 @@ use Rattle.races.proofs.StudyLaw.{study_kept, fed_step, ended_after}
 use Rattle.bench.specs.Chains.{Chain, nothing, then, FirstPlace, logged, Settled}
 use Rattle.bench.specs.Handovers.{finished_call, else_later, first_finished, Quiet, CallAwaited}
 use Rattle.bench.proofs.RunsOut.{place_delivered, settled_runs_out}
-
--- The first call ended in one list and then another.
-finished_append : (xs ys : List Outcome) → first_finished (xs ++ ys) ≡ else_later (first_finished xs) (first_finished ys)
-finished_append [] ys = refl
-finished_append (x ∷ xs) ys = ap (else_later (finished_call x)) (finished_append xs ys) ∙ regroup (finished_call x)
-  where
-    regroup : (o : Option Ended) → else_later o (else_later (first_finished xs) (first_finished ys)) ≡ else_later (else_later o (first_finished xs)) (first_finished ys)
-    regroup (Some z) = refl
-    regroup None = refl
-
--- Where none was ended before, the next outcome decides.
-pub finished_next : (xs : List Outcome) (i : ℕ) (r d : Outcome) → i < length xs → first_finished (take i xs) ≡ None → get_or xs i d ≡ r → first_finished (take (i + 1) xs) ≡ finished_call r
-finished_next xs i r d l h e =
-    ap first_finished (take_more xs i d l ∙ ap (λ (z : Outcome). take i xs ++ z ∷ []) e)
-    ∙ (finished_append (take i xs) (r ∷ []) ∙ (ap (λ (o : Option Ended). else_later o (else_later (finished_call r) None)) h ∙ else_none (finished_call r)))
-  where
-    else_none : (o : Option Ended) → else_later o None ≡ o
-    else_none (Some x) = refl
-    else_none None = refl
-
-pub finished_first : (xs : List Outcome) (i : ℕ) (x : Ended) → first_finished (take i xs) ≡ Some x → Some x ≡ first_finished xs
-finished_first xs i x h = sym (ap first_finished (sym (take-append-drop i xs)) ∙ (finished_append (take i xs) (drop i xs) ∙ ap (λ (o : Option Ended). else_later o (first_finished (drop i xs))) h))
-
-pub finished_none : (r : Outcome) → ((x : Ended) (race : Bool) → r ≡ Finished x race → ⊥) → finished_call r ≡ None
-finished_none (Refused e) h = refl
-finished_none Waits h = refl
-finished_none (HasEnded x race) h = refl
-finished_none Moved h = refl
-finished_none (Finished x race) h = absurd (h x race refl)
 
 -- Only the call k is waited for.
 record Only (k : Step) (m : Moment) : Type 0 where

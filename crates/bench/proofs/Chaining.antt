@@ -61,12 +61,11 @@ run_done M means s t w v ks out new i h e l =
 abbrev pub Settling : (M : Machine) → M.State → RaceTable → List Outcome → ℕ → M.State → RaceTable → List Outcome → Type 0
 Settling M s w out i t v new = (ks : List Step) × SoFar M (FirstPlace M) s w ks out i t v new
 
-pub settle_more : (M : Machine) (s t u : M.State) (w v x : RaceTable) (out new later : List Outcome) (i p : ℕ) (r : Outcome) → i < length new → Settling M s w out i t v new → M.opens t 0 (Some p) → Takes M t v (Move p) r u x → later ≡ set new i r → Settling M s w out (i + 1) u x later
-settle_more M s t u w v x out new later i p r l h o g e =
-    subst (λ (z : List Outcome). Settling M s w out (i + 1) u x z) (sym e) (h.0 ++ Move p ∷ [], far_more M (FirstPlace M) i l h.1 (p, refl, o) g)
+pub settle_more : (M : Machine) (s t u : M.State) (w v x : RaceTable) (out new : List Outcome) (i p : ℕ) (r : Outcome) → i < length new → Settling M s w out i t v new → M.opens t 0 (Some p) → Takes M t v (Move p) r u x → Settling M s w out (i + 1) u x (set new i r)
+settle_more M s t u w v x out new i p r l h o g = (h.0 ++ Move p ∷ [], far_more M (FirstPlace M) i l h.1 (p, refl, o) g)
 
 -- A settling has come to its end: no place is open, or the outcomes are full.
-settle_done : (M : Machine) (means : Meaning M) (s t : M.State) (w v : RaceTable) (out new : List Outcome) (i n : ℕ) (o : Option ℕ) (b : Bool) → Settling M s w out i t v new → n ≡ i → b ≡ is_some o → i ≤ length new → M.opens t 0 o → (b ≡ true → n ≡ length out) → Settled M s w out n b t v new
+pub settle_done : (M : Machine) (means : Meaning M) (s t : M.State) (w v : RaceTable) (out new : List Outcome) (i n : ℕ) (o : Option ℕ) (b : Bool) → Settling M s w out i t v new → n ≡ i → b ≡ is_some o → i ≤ length new → M.opens t 0 o → (b ≡ true → n ≡ length out) → Settled M s w out n b t v new
 settle_done M means s t w v out new i n o b h e q l a f =
     let c = h.1.chain in
     record {
@@ -88,13 +87,7 @@ settle_done M means s t w v out new i n o b h e q l a f =
       left = λ log w'. (holds M means t v _ (chain_carries M (FirstPlace M) c log w')).opens 0 o a;
     }
 
--- The same, with the pair that is answered.
-pub settle_answers : (M : Machine) (means : Meaning M) (s t : M.State) (w v : RaceTable) (out new : List Outcome) (i n : ℕ) (o : Option ℕ) (r : ℕ × Bool) → Settling M s w out i t v new → n ≡ i → r ≡ (n, is_some o) → i ≤ length new → M.opens t 0 o → (is_some o ≡ true → n ≡ length out) → Settled M s w out r.0 r.1 t v new
-settle_answers M means s t w v out new i n o r h e q l a f =
-    subst (λ (z : ℕ × Bool). Settled M s w out z.0 z.1 t v new) (sym q) (settle_done M means s t w v out new i n o (is_some o) h e refl l a f)
-
 -- A turn of a run.
-pub run_more : (M : Machine) (s t u : M.State) (w v x : RaceTable) (ks : List Step) (out new later : List Outcome) (i : ℕ) (d : Step) (r : Outcome) → i < length ks → i < length new → SoFar M (AnyStep M) s w (take i ks) out i t v new → Takes M t v (get_or ks i d) r u x → later ≡ set new i r → SoFar M (AnyStep M) s w (take (i + 1) ks) out (i + 1) u x later
-run_more M s t u w v x ks out new later i d r k l h g e =
-    subst (λ (z : List Outcome). SoFar M (AnyStep M) s w (take (i + 1) ks) out (i + 1) u x z) (sym e)
-    (subst (λ (z : List Step). SoFar M (AnyStep M) s w z out (i + 1) u x (set new i r)) (sym (take_more ks i d k)) (far_more M (AnyStep M) i l h tt g))
+pub run_more : (M : Machine) (s t u : M.State) (w v x : RaceTable) (ks : List Step) (out new : List Outcome) (i : ℕ) (d : Step) (r : Outcome) → i < length ks → i < length new → SoFar M (AnyStep M) s w (take i ks) out i t v new → Takes M t v (get_or ks i d) r u x → SoFar M (AnyStep M) s w (take (i + 1) ks) out (i + 1) u x (set new i r)
+run_more M s t u w v x ks out new i d r k l h g =
+    subst (λ (z : List Step). SoFar M (AnyStep M) s w z out (i + 1) u x (set new i r)) (sym (take_more ks i d k)) (far_more M (AnyStep M) i l h tt g)

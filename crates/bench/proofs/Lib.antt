@@ -2,6 +2,7 @@ pub mod Answering
 pub mod Awaiting
 pub mod Chaining
 pub mod Computing
+pub mod Finding
 pub mod HandingOver
 pub mod Holding
 pub mod Rooms

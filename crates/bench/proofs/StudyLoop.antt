@@ -74,7 +74,7 @@ far_more M {f} {t} {u} {x} {v} {y} qs {answers} {now_answers} {out} now_out part
     }
 
 -- A fresh state with a starting table begins a study.
-begins : (M : Machine) (f : M.State) (x : RaceTable) → M.fresh f → x ≡ start → Watched M f x empty_log
+pub begins : (M : Machine) (f : M.State) (x : RaceTable) → M.fresh f → x ≡ start → Watched M f x empty_log
 begins M f x h e = record { study = set_up h; table = e }
 
 pub study_done : (M : Machine) → Meaning M → (f t : M.State) (x v : RaceTable) (qs : List Request) (answers now_answers : List Answer) (out now_out : List Outcome) (i at : ℕ) → M.fresh f → x ≡ start → SoFar M f x qs answers out i at t v now_answers now_out → i ≡ length qs → length qs ≤ length answers → rooms_of qs ≤ length out → Whole M qs answers out at t v now_answers now_out

@@ -1,3 +1,4 @@
+pub mod Benches
 pub mod Chains
 pub mod Computed
 pub mod Faults

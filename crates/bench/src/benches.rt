@@ -7,13 +7,13 @@ ghost use Rattle.protocol.specs.declared.steps.Step.TheVariants.{Load, Store, Ac
 ghost use Rattle.races.specs.Log.{Log, empty_log};
 ghost use Rattle.races.specs.Guarantee.{ImageAnswers};
 ghost use Rattle.races.specs.Races.{number, first_race, newest, any_race};
-ghost use Rattle.races.specs.Study.{Takes, Watched};
 ghost use Rattle.races.specs.Table.{start};
 
 use protocol::{Protocol, Refusal, Reply, Step};
 use races::{Outcome, RaceTable};
 
 /// One protocol of any kind, and the races of the study that it is in.
+// No `impl Model`: its `Value` would be the protocol's state with the table, and a `Value` cannot name a bound's member, as `P.machine`.
 #[derive(Drop)]
 pub struct Bench<P> {
     protocol: P,
@@ -21,6 +21,7 @@ pub struct Bench<P> {
 }
 
 /// Puts a step to the protocol.
+// A `match`, and no table of closures: each kind of step has fields of its own.
 fn ask<P: Protocol>(protocol: &mut P, step: Step) -> Reply
     ensures { (Fit step) × (P.machine.steps (P.state protocol.old) step result (P.state protocol.new)) }
 {
@@ -39,44 +40,13 @@ fn ask<P: Protocol>(protocol: &mut P, step: Step) -> Reply
 }
 
 impl<P: Protocol> Bench<P> {
-    fn count(&self) -> u16
-        ensures { result ≡ self.now.races.ended }
-    {
-        self.races.ended
-    }
-
-    fn first(&self) -> u16
-        ensures { result ≡ self.now.races.first_race }
-    {
-        self.races.first_race
-    }
-
-    fn home(&self, address: u8) -> Result<u8, Refusal>
-        ensures { P.machine.images (P.state self.now.protocol) address result }
-    {
-        self.protocol.image(address)
-    }
-
-    pub(crate) fn open_from(&self, place: u8) -> Option<u8>
-        ensures { P.machine.opens (P.state self.now.protocol) place result }
-    {
-        self.protocol.next_open(place)
-    }
-
-    /// Clears the protocol and the race table.
-    fn clear(&mut self)
-        ensures fresh { P.machine.fresh (P.state self.new.protocol) }
-        ensures table { self.new.races ≡ start }
-    {
-        self.protocol.clear();
-        self.races = RaceTable::new();
-    }
+    ghost use Rattle.bench.specs.Benches.{InStudy, Steps};
 
     /// Sets a bench up over a protocol, in whatever state that is.
     pub fn new(protocol: P) -> Bench<P>
         ensures fresh { P.machine.fresh (P.state result.protocol) }
         ensures table { result.races ≡ start }
-        ensures begins { Watched P.machine (P.state result.protocol) result.races empty_log }
+        ensures begins { InStudy P.machine P.state result empty_log }
     {
         let mut bench = Bench {
             protocol,
@@ -90,14 +60,15 @@ impl<P: Protocol> Bench<P> {
     pub fn set_up(&mut self)
         ensures fresh { P.machine.fresh (P.state self.new.protocol) }
         ensures table { self.new.races ≡ start }
-        ensures begins { Watched P.machine (P.state self.new.protocol) self.new.races empty_log }
+        ensures begins { InStudy P.machine P.state self.new empty_log }
     {
-        self.clear();
+        self.protocol.clear();
+        self.races = RaceTable::new();
     }
 
     /// Takes one step and writes its outcome: the protocol's answer, with the race mark.
     pub(crate) fn step_into(&mut self, step: Step, outcome: &mut Outcome)
-        ensures { Takes P.machine (P.state self.old.protocol) self.old.races step outcome.new (P.state self.new.protocol) self.new.races }
+        ensures { Steps P.machine P.state self.old step outcome.new self.new }
     {
         let reply = ask(&mut self.protocol, step);
         *outcome = self.races.mark(reply);
@@ -105,7 +76,7 @@ impl<P: Protocol> Bench<P> {
 
     /// Takes one step: the protocol's answer, with the race mark.
     pub fn step(&mut self, step: Step) -> Outcome
-        ensures { Takes P.machine (P.state self.old.protocol) self.old.races step result (P.state self.new.protocol) self.new.races }
+        ensures { Steps P.machine P.state self.old step result self.new }
     {
         let mut outcome = Outcome::Waits;
         self.step_into(step, &mut outcome);
@@ -113,13 +84,13 @@ impl<P: Protocol> Bench<P> {
     }
 
     pub fn load(&mut self, core: u8, address: u8) -> Outcome
-        ensures { Takes P.machine (P.state self.old.protocol) self.old.races (Load core address) result (P.state self.new.protocol) self.new.races }
+        ensures { Steps P.machine P.state self.old (Load core address) result self.new }
     {
         self.step(Step::Load { core, address })
     }
 
     pub fn store(&mut self, core: u8, address: u8, byte: u8) -> Outcome
-        ensures { Takes P.machine (P.state self.old.protocol) self.old.races (Store core address byte) result (P.state self.new.protocol) self.new.races }
+        ensures { Steps P.machine P.state self.old (Store core address byte) result self.new }
     {
         self.step(Step::Store {
             core,
@@ -129,26 +100,26 @@ impl<P: Protocol> Bench<P> {
     }
 
     pub fn acquire(&mut self, core: u8) -> Outcome
-        ensures { Takes P.machine (P.state self.old.protocol) self.old.races (Acquire core) result (P.state self.new.protocol) self.new.races }
+        ensures { Steps P.machine P.state self.old (Acquire core) result self.new }
     {
         self.step(Step::Acquire { core })
     }
 
     pub fn release(&mut self, core: u8) -> Outcome
-        ensures { Takes P.machine (P.state self.old.protocol) self.old.races (Release core) result (P.state self.new.protocol) self.new.races }
+        ensures { Steps P.machine P.state self.old (Release core) result self.new }
     {
         self.step(Step::Release { core })
     }
 
     pub fn evict(&mut self, core: u8, line: u8) -> Outcome
-        ensures { Takes P.machine (P.state self.old.protocol) self.old.races (Evict core line) result (P.state self.new.protocol) self.new.races }
+        ensures { Steps P.machine P.state self.old (Evict core line) result self.new }
     {
         self.step(Step::Evict { core, line })
     }
 
     /// Moves the message at a place.
     pub fn move_message(&mut self, place: u8) -> Outcome
-        ensures { Takes P.machine (P.state self.old.protocol) self.old.races (Move place) result (P.state self.new.protocol) self.new.races }
+        ensures { Steps P.machine P.state self.old (Move place) result self.new }
     {
         self.step(Step::Move { place })
     }
@@ -156,33 +127,33 @@ impl<P: Protocol> Bench<P> {
     /// How many core calls have ended, at most 65,535.
     pub fn ended(&self) -> u16
         ensures value { result ≡ self.now.races.ended }
-        ensures counts { (log : Log) → Watched P.machine (P.state self.now.protocol) self.now.races log → result ≡ number log.ended }
+        ensures counts { (log : Log) → InStudy P.machine P.state self.now log → result ≡ number log.ended }
     {
-        self.count()
+        self.races.ended
     }
 
     /// The number of the first race, or 0.
     pub fn first_race(&self) -> u16
         ensures value { result ≡ self.now.races.first_race }
-        ensures counts { (log : Log) → Watched P.machine (P.state self.now.protocol) self.now.races log → result ≡ first_race log.ended }
+        ensures counts { (log : Log) → InStudy P.machine P.state self.now log → result ≡ first_race log.ended }
     {
-        self.first()
+        self.races.first_race
     }
 
     /// The byte at home of an address.
     pub fn image(&self, address: u8) -> Result<u8, Refusal>
         ensures answers { P.machine.images (P.state self.now.protocol) address result }
-        ensures means { (log : Log) → Watched P.machine (P.state self.now.protocol) self.now.races log → result ≡ image_of (P.machine.moment (P.state self.now.protocol)) address }
-        ensures right { (log : Log) → Watched P.machine (P.state self.now.protocol) self.now.races log → any_race log.ended ≡ false → address < 64 → ImageAnswers result address log.ended (newest address log.ended) }
+        ensures means { (log : Log) → InStudy P.machine P.state self.now log → result ≡ image_of (P.machine.moment (P.state self.now.protocol)) address }
+        ensures right { (log : Log) → InStudy P.machine P.state self.now log → any_race log.ended ≡ false → address < 64 → ImageAnswers result address log.ended (newest address log.ended) }
     {
-        self.home(address)
+        self.protocol.image(address)
     }
 
     /// The first open place at or after a place.
     pub fn next_open(&self, place: u8) -> Option<u8>
         ensures answers { P.machine.opens (P.state self.now.protocol) place result }
-        ensures means { (log : Log) → Watched P.machine (P.state self.now.protocol) self.now.races log → FirstOpen (P.machine.moment (P.state self.now.protocol)) place result }
+        ensures means { (log : Log) → InStudy P.machine P.state self.now log → FirstOpen (P.machine.moment (P.state self.now.protocol)) place result }
     {
-        self.open_from(place)
+        self.protocol.next_open(place)
     }
 }

@@ -2,7 +2,8 @@
 
 ghost use Rattle.std.specs.Prelude.{◌≡◌, length};
 ghost use Rattle.protocol.specs.Meaning.{CanWait};
-ghost use Rattle.bench.specs.Handovers.{first_finished, Awaits, CallAwaited, HandoverTrail, HandsOver};
+ghost use Rattle.bench.specs.Benches.{AwaitsCall, EndsCall, MakesHandover, HandsByteOver};
+ghost use Rattle.bench.specs.Handovers.{first_finished};
 
 use crate::benches::Bench;
 use protocol::{Ended, Protocol, Step};
@@ -12,20 +13,18 @@ use races::Outcome;
 fn finished(outcomes: &[Outcome]) -> Option<Ended>
     ensures { result ≡ first_finished outcomes.now }
 {
-    for outcome in outcomes {
-        if let Outcome::Finished { call, .. } = *outcome {
-            return Some(call);
-        }
-    }
-    None
+    outcomes.iter().find_map(|outcome| match *outcome {
+        Outcome::Finished { call, .. } => Some(call),
+        _ => None,
+    })
 }
 
 impl<P: Protocol> Bench<P> {
     /// Makes a core call and, if its core waits, settles. Answers the call once it has ended.
     fn await_call(&mut self, step: Step, outcomes: &mut [Outcome]) -> Option<Ended>
         requires { CanWait step }
-        ensures made { Awaits P.machine (P.state self.old.protocol) self.old.races step outcomes.old result (P.state self.new.protocol) self.new.races outcomes.new }
-        ensures right { CallAwaited P.machine (P.state self.old.protocol) self.old.races step (length outcomes.old) result (P.state self.new.protocol) self.new.races }
+        ensures made { AwaitsCall P.machine P.state self.old step outcomes.old result self.new outcomes.new }
+        ensures right { EndsCall P.machine P.state self.old step (length outcomes.old) result self.new }
     {
         match self.step(step) {
             Outcome::Ended { call, .. } => Some(call),
@@ -47,8 +46,8 @@ impl<P: Protocol> Bench<P> {
         byte: u8,
         outcomes: &mut [Outcome],
     ) -> Option<u8>
-        ensures made { HandoverTrail P.machine from to address byte outcomes.old result (P.state self.new.protocol) self.new.races outcomes.new }
-        ensures right { HandsOver P.machine from to address byte (length outcomes.old) result (P.state self.new.protocol) self.new.races }
+        ensures made { MakesHandover P.machine P.state from to address byte outcomes.old result self.new outcomes.new }
+        ensures right { HandsByteOver P.machine P.state from to address byte (length outcomes.old) result self.new }
     {
         self.set_up();
         let _ = self.await_call(

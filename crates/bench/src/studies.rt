@@ -1,7 +1,8 @@
 //! Whole studies: any list of requests, from a set-up on.
 
 ghost use Rattle.std.specs.Prelude.{◌≡◌, ◌≤◌, false, length, is_ok, nat_le};
-ghost use Rattle.bench.specs.Requests.{room_of, rooms_of, Answered, Studies};
+ghost use Rattle.bench.specs.Benches.{AnswersRequest, MakesStudy};
+ghost use Rattle.bench.specs.Requests.{room_of, rooms_of};
 
 use crate::benches::Bench;
 use crate::faults::{Cause, Fault, Layer};
@@ -25,22 +26,17 @@ impl Request<'_> {
 fn fit(requests: &[Request], outcomes: usize) -> bool
     ensures { result ≡ nat_le (rooms_of requests.now) outcomes }
 {
-    let mut left = outcomes;
-    for request in requests {
-        let room = request.room();
-        if room > left {
-            return false;
-        }
-        left -= room;
-    }
-    true
+    requests
+        .iter()
+        .try_fold(outcomes, |left, request| left.checked_sub(request.room()))
+        .is_some()
 }
 
 impl<P: Protocol> Bench<P> {
     /// Answers one request in the room that it wants, and writes its outcomes at the start of that. Answers too how many those are.
     fn answer(&mut self, request: Request, outcomes: &mut [Outcome]) -> (Answer, usize)
         requires { length outcomes.old ≡ room_of request }
-        ensures { Answered P.machine (P.state self.old.protocol) self.old.races request.entry outcomes.old result.0 result.1 (P.state self.new.protocol) self.new.races outcomes.new }
+        ensures { AnswersRequest P.machine P.state self.old request.entry outcomes.old result self.new outcomes.new }
     {
         match request {
             Request::Step(step) => (Answer::Stepped(self.step(step)), 0),
@@ -64,18 +60,15 @@ impl<P: Protocol> Bench<P> {
         answers: &mut [Answer],
         outcomes: &mut [Outcome],
     ) -> Result<usize, Fault>
-        ensures made { Studies P.machine requests.now answers.old outcomes.old result (P.state self.new.protocol) self.new.races answers.new outcomes.new }
+        ensures made { MakesStudy P.machine P.state requests.now answers.old outcomes.old result self.new answers.new outcomes.new }
         ensures untouched { is_ok result ≡ false → self.new ≡ self.old }
     {
         if answers.len() < requests.len() || !fit(requests, outcomes.len()) {
-            return Err(Fault {
-                cause: Cause::TooFewOutcomes,
-                place: 0,
-                layer: Layer::Caller,
-            });
+            return Err(Layer::Caller.fault(Cause::TooFewOutcomes, 0));
         }
         self.set_up();
         let mut at = 0;
+        // By the index, and no `zip` with `iter_mut`: of what its loop writes, the proof learns nothing.
         for (index, request) in requests.iter().enumerate() {
             let end = at + request.room();
             let (answer, written) = self.answer(*request, &mut outcomes[at..end]);

@@ -1,12 +1,10 @@
--- The room that the requests want is found to fit, or not, as it is added up.
-use Rattle.bench.proofs.Rooms.{rooms_over, rooms_within, rooms_step}
+-- Each turn takes the room of one request from what is left, and stops where there is too little.
+use Rattle.std.proofs.Common.{rules, ap, ◌∙◌, leb}
+use Rattle.bench.specs.Requests.{rooms_of}
+use Rattle.bench.proofs.Rooms.{fits_is, taken}
 use Rattle.bench.proofs.studies.fit.Goals as goal
 
-pub returns-then-room-left : goal.returns-then-room-left
-returns-then-room-left c = rooms_over c.args.requests.now c.loop-request.request-index c.loop-request.left c.args.outcomes c.room-room.result _ c.loop-request-test.true c.loop-request.invariant c.room-room.ensures c.if-room-left.true
-
-pub loop-request-preserved : goal.loop-request-preserved
-loop-request-preserved c = rooms_step c.args.requests.now c.loop-request.request-index c.loop-request.left c.args.outcomes c.room-room.result _ c.loop-request-test.true c.loop-request.invariant c.room-room.ensures c.if-room-left.false
-
 pub returns : goal.returns
-returns c = rooms_within c.args.requests.now c.loop-request.request-index c.loop-request.left c.args.outcomes c.loop-request-test.false c.loop-request.invariant
+returns c =
+    c.is_some.ensures ∙ fits_is _ _ (λ p q left x v k. search (rules, taken)) c.args.outcomes c.try_fold.result c.try_fold.ensures.ran
+    ∙ ap (λ (z : _). leb (rooms_of z) c.args.outcomes) c.iter.ensures.rest

@@ -13,14 +13,12 @@ answered_image : (m : Moment) (a : ℕ) (xs : List Ended) (o : Option Written) �
 answered_image m a xs None h = h
 answered_image m a xs (Some w) h = h
 
-pub returns : goal.returns
-returns g c =
-    let at = holds g.P.Protocol.machine g.met.P.Protocol.keeps (g.P.Protocol.state c.args.self.now.protocol) c.args.self.now.races in
+pub returns-clause-means : goal.returns-clause-means
+returns-clause-means g c = λ log h. (holds g.P.Protocol.machine g.met.P.Protocol.keeps _ _ log h).images c.args.address c.image.result c.image.ensures
+
+pub returns-clause-right : goal.returns-clause-right
+returns-clause-right g c = λ log h no l.
+    let m = g.P.Protocol.machine.moment (g.P.Protocol.state c.args.self.now.protocol) in
     let a = c.args.address in
-    record {
-      answers = c.home.ensures;
-      means = λ log h. (at log h).images a c.home.result c.home.ensures;
-      right = λ log h no l.
-          subst (λ (r : Result ℕ Refusal). ImageAnswers r a log.ended (newest a log.ended)) (sym ((at log h).images a c.home.result c.home.ensures))
-          (answered_image (g.P.Protocol.machine.moment (g.P.Protocol.state c.args.self.now.protocol)) a log.ended (newest a log.ended) ((at log h).coherent.image no a l));
-    }
+    let at = holds g.P.Protocol.machine g.met.P.Protocol.keeps _ _ log h in
+    subst (λ (r : Result ℕ Refusal). ImageAnswers r a log.ended (newest a log.ended)) (sym (at.images a c.image.result c.image.ensures)) (answered_image m a log.ended (newest a log.ended) (at.coherent.image no a l))

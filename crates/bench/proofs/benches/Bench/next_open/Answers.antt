@@ -2,9 +2,5 @@
 use Rattle.bench.proofs.Holding.{holds}
 use Rattle.bench.proofs.benches.Bench.next_open.Goals as goal
 
-pub returns : goal.returns
-returns g c =
-    record {
-      answers = c.open_from.ensures;
-      means = λ log h. (holds g.P.Protocol.machine g.met.P.Protocol.keeps _ _ log h).opens c.args.place c.open_from.result c.open_from.ensures;
-    }
+pub returns-clause-means : goal.returns-clause-means
+returns-clause-means g c = λ log h. (holds g.P.Protocol.machine g.met.P.Protocol.keeps _ _ log h).opens c.args.place c.next_open.result c.next_open.ensures

@@ -1,6 +1,7 @@
 -- A cleared protocol and a starting table begin a study.
-use Rattle.races.specs.Study.{set_up}
+use Rattle.std.proofs.Common.{rules}
+use Rattle.bench.proofs.StudyLoop.{begins}
 use Rattle.bench.proofs.benches.Bench.set_up.Goals as goal
 
-pub returns : goal.returns
-returns g c = record { fresh = c.clear.ensures.fresh; table = c.clear.ensures.table; begins = record { study = set_up c.clear.ensures.fresh; table = c.clear.ensures.table } }
+pub returns-clause-begins : goal.returns-clause-begins
+returns-clause-begins g c = search (rules, begins)
