@@ -1,27 +1,12 @@
 -- There is room for each request, and each turn answers one.
-use Rattle.std.proofs.Common.{◌+◌, ◌-◌, sym, refl, ◌∙◌, arith, rules}
+use Rattle.std.proofs.Common.{◌+◌, ◌-◌, sym, refl, ◌∙◌, arith}
 use Rattle.std.proofs.lemmas.Bool.{leb-true, true≢false}
-use Rattle.bench.proofs.StudyLoop.{far_none, far_more, room_left, study_done}
+use Rattle.bench.proofs.StudyLoop.{far_none, far_more, study_done}
 use Rattle.bench.proofs.benches.Bench.study.Goals as goal
 
 pub loop-index-init : goal.loop-index-init
 loop-index-init g c =
     far_none g.P.Protocol.machine (g.P.Protocol.state c.set_up.new.self.protocol) c.set_up.new.self.races c.args.requests.now c.args.answers.now c.args.outcomes.now (leb-true _ _ (sym c.fit.ensures ∙ c.if-not-fit.false))
-
-pub overflow_add-end : goal.overflow_add-end
-overflow_add-end g c = let h = room_left c.args.requests.now c.loop-index.index c.loop-index.at c.room.result _ c.loop-index.invariant c.loop-index-test.true c.room.ensures in omega arith
-
-pub slice_bounds-answer-end : goal.slice_bounds-answer-end
-slice_bounds-answer-end g c =
-    let h = room_left c.args.requests.now c.loop-index.index c.loop-index.at c.room.result _ c.loop-index.invariant c.loop-index-test.true c.room.ensures in
-    search rules
-
-pub overflow_add-at : goal.overflow_add-at
-overflow_add-at g c =
-    let h = room_left c.args.requests.now c.loop-index.index c.loop-index.at c.room.result _ c.loop-index.invariant c.loop-index-test.true c.room.ensures in
-    let f = c.answer-answer.ensures.few in
-    let n = c.answer-answer.ensures.counted in
-    omega arith
 
 pub loop-index-preserved : goal.loop-index-preserved
 loop-index-preserved g c =
