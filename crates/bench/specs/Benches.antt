@@ -4,6 +4,7 @@ use Rattle.std.specs.Prelude.{ℕ, Bool, List, Option, Result}
 use Rattle.protocol.specs.declared.steps.Step.{Step}
 use Rattle.protocol.specs.declared.steps.Ended.{Ended}
 use Rattle.protocol.specs.Meaning.{Machine}
+use Rattle.protocol.specs.Moment.{Moment}
 use Rattle.races.specs.declared.outcomes.Outcome.{Outcome}
 use Rattle.races.specs.Log.{Log}
 use Rattle.races.specs.Study.{Watched, Takes}
@@ -16,6 +17,10 @@ use Rattle.bench.specs.Requests.{Answered, Studies}
 use Rattle.bench.specs.Handovers.{Awaits, CallAwaited, HandoverTrail, HandsOver}
 
 module _ {P : Type 0} (M : Machine) (state : P → M.State) where
+  -- What the bench's protocol has at the moment.
+  abbrev pub moment_of : Bench P → Moment
+  moment_of b = M.moment (state b.protocol)
+
   -- The bench is in the study of that log.
   abbrev pub InStudy : Bench P → Log → Type 0
   InStudy b log = Watched M (state b.protocol) b.races log

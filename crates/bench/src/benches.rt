@@ -40,7 +40,7 @@ fn ask<P: Protocol>(protocol: &mut P, step: Step) -> Reply
 }
 
 impl<P: Protocol> Bench<P> {
-    ghost use Rattle.bench.specs.Benches.{InStudy, Steps};
+    ghost use Rattle.bench.specs.Benches.{moment_of, InStudy, Steps};
 
     /// Sets a bench up over a protocol, in whatever state that is.
     pub fn new(protocol: P) -> Bench<P>
@@ -143,7 +143,7 @@ impl<P: Protocol> Bench<P> {
     /// The byte at home of an address.
     pub fn image(&self, address: u8) -> Result<u8, Refusal>
         ensures answers { P.machine.images (P.state self.now.protocol) address result }
-        ensures means { (log : Log) → InStudy P.machine P.state self.now log → result ≡ image_of (P.machine.moment (P.state self.now.protocol)) address }
+        ensures means { (log : Log) → InStudy P.machine P.state self.now log → result ≡ image_of (moment_of P.machine P.state self.now) address }
         ensures right { (log : Log) → InStudy P.machine P.state self.now log → any_race log.ended ≡ false → address < 64 → ImageAnswers result address log.ended (newest address log.ended) }
     {
         self.protocol.image(address)
@@ -152,7 +152,7 @@ impl<P: Protocol> Bench<P> {
     /// The first open place at or after a place.
     pub fn next_open(&self, place: u8) -> Option<u8>
         ensures answers { P.machine.opens (P.state self.now.protocol) place result }
-        ensures means { (log : Log) → InStudy P.machine P.state self.now log → FirstOpen (P.machine.moment (P.state self.now.protocol)) place result }
+        ensures means { (log : Log) → InStudy P.machine P.state self.now log → FirstOpen (moment_of P.machine P.state self.now) place result }
     {
         self.protocol.next_open(place)
     }
