@@ -1,6 +1,7 @@
 -- The race table: of each address the newest store's core, and once that core has released since, which cores have acquired after that;
 -- with the count of ended calls and the number of the first race. It is a summary of the ended calls.
 use Rattle.std.specs.Prelude.{◌≡◌, ℕ, ◌+◌, min, Bool, true, false, cond, not, ◌&&◌, List, [], ◌∷◌, map, replicate, Some, None, Option, unwrap_or, option_map, ◌==◌, nat_lt, slice_index_or, slice_set}
+use Rattle.std.specs.Borrow.{MutBor}
 use Rattle.protocol.specs.declared.steps.Ended.{Ended}
 use Rattle.protocol.specs.declared.steps.Ended.TheVariants.{Loaded, Stored, Acquired, Released, Evicted}
 use Rattle.protocol.specs.declared.steps.Reply.{Reply}
@@ -41,9 +42,9 @@ abbrev pub entry_races : ℕ → Option Newest → Bool
 entry_races c None = false
 entry_races c (Some e) = store_races c e
 
--- Every answer is that of f.
-abbrev pub Computes : (Newest → Newest → Type 0) → (Newest → Newest) → Type 0
-Computes answers f = (e r : Newest) → answers e r → r ≡ f e
+-- A call that is given a store leaves f of it.
+abbrev pub ChangesBy : (MutBor Newest → Unit {0} → MutBor Newest → Type 0) → (Newest → Newest) → Type 0
+ChangesBy leaves f = (old new : MutBor Newest) (r : Unit {0}) → leaves old r new → new.now ≡ f old.now
 
 -- The newest stores after one more ended call. (No call of a core above 7 or an address above 63 ends.)
 abbrev pub stores_after : Ended → List (Option Newest) → List (Option Newest)

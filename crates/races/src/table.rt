@@ -1,7 +1,7 @@
 //! The race table: all that the races still to come depend on, in fixed room.
 
 ghost use Rattle.std.specs.Prelude.{◌≡◌, ◌&&◌, map, nat_lt, option_map, slice_index_or};
-ghost use Rattle.races.specs.Table.{none_yet, stored_by, released_by, acquired_by, has_acquired, store_races, entry_races, Computes, stores_after, table_races, noted, start, marked};
+ghost use Rattle.races.specs.Table.{none_yet, stored_by, released_by, acquired_by, has_acquired, store_races, entry_races, ChangesBy, stores_after, table_races, noted, start, marked};
 
 use crate::outcomes::Outcome;
 use protocol::{Core, Ended, Reply};
@@ -36,34 +36,27 @@ impl Newest {
         }
     }
 
-    fn released_by(self, core: u8) -> Newest
-        ensures { result ≡ released_by core self }
+    /// A release by the core has ended.
+    fn release(&mut self, core: u8)
+        ensures { self.new ≡ released_by core self.old }
     {
-        if self.storer != core {
-            return self;
-        }
-        Newest {
-            acquired: Some(self.acquired.unwrap_or([false; 8])),
-            ..self
+        if self.storer == core {
+            self.acquired = Some(self.acquired.unwrap_or([false; 8]));
         }
     }
 
-    fn acquired_by(self, core: Core) -> Newest
-        ensures { result ≡ acquired_by core.number self }
+    /// An acquire of the core has ended.
+    fn acquire(&mut self, core: Core)
+        ensures { self.new ≡ acquired_by core.number self.old }
     {
-        let Some(mut acquired) = self.acquired else {
-            return self;
-        };
-        acquired[core.index()] = true;
-        Newest {
-            acquired: Some(acquired),
-            ..self
+        if let Some(acquired) = &mut self.acquired {
+            acquired[core.index()] = true;
         }
     }
 
     /// Whether the core has acquired since the storer released.
-    fn has_acquired(self, core: Core) -> bool
-        ensures { result ≡ has_acquired core.number self.acquired }
+    fn has_acquired(&self, core: Core) -> bool
+        ensures { result ≡ has_acquired core.number self.now.acquired }
     {
         // No `is_some_and`: the proof learns nothing from a closure that looks into an array.
         match self.acquired {
@@ -73,20 +66,22 @@ impl Newest {
     }
 
     /// Whether a load or store of the core races with the store.
-    fn races(self, core: Core) -> bool
-        ensures { result ≡ store_races core.number self }
+    fn races(&self, core: Core) -> bool
+        ensures { result ≡ store_races core.number self.now }
     {
         self.storer != u8::from(core) && !self.has_acquired(core)
     }
 }
 
 /// Changes each newest store.
-fn change_each<F: Fn(Newest) -> Newest>(newest: &mut [Option<Newest>; 64], change: F)
+fn change_each<F: Fn(&mut Newest)>(newest: &mut [Option<Newest>; 64], change: F)
     requires { F.IsAlwaysCallable change }
-    ensures { (f : _) → Computes (F.post change) f → newest.new ≡ map (option_map f) newest.old }
+    ensures { (f : _) → ChangesBy (F.post change) f → newest.new ≡ map (option_map f) newest.old }
 {
     for entry in newest.iter_mut() {
-        *entry = entry.map(&change);
+        if let Some(store) = entry {
+            change(store);
+        }
     }
 }
 
@@ -135,13 +130,10 @@ impl RaceTable {
             }
             Ended::Acquired { core } => {
                 if let Ok(core) = Core::try_from(core) {
-                    change_each(&mut self.newest, |store| store.acquired_by(core));
+                    change_each(&mut self.newest, |store| store.acquire(core));
                 }
             }
-            Ended::Released { core } => change_each(
-                &mut self.newest,
-                |store| store.released_by(core),
-            ),
+            Ended::Released { core } => change_each(&mut self.newest, |store| store.release(core)),
             _ => {}
         }
     }
