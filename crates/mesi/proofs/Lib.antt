@@ -1,4 +1,4 @@
 pub mod Alone
 pub mod Law
 pub mod Owned
-pub mod Read
+pub mod FindMap

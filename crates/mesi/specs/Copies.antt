@@ -1,5 +1,6 @@
 -- The copies of one line at the eight cores.
-use Rattle.std.specs.Prelude.{ℕ, Bool, true, false, not, ◌||◌, List, [], ◌∷◌, slice_set}
+use Rattle.std.specs.Prelude.{ℕ, Bool, true, false, not, List, [], ◌∷◌, Some, None, Option, slice_set}
+use Rattle.std.specs.List.{list_any}
 use Rattle.mesi.specs.declared.copies.PrivateLine.{PrivateLine}
 use Rattle.mesi.specs.declared.copies.PrivateLine.TheVariants.{Invalid, Shared, Exclusive, Modified}
 
@@ -45,15 +46,24 @@ held_or line (Shared d) = d
 held_or line (Exclusive d) = d
 held_or line (Modified d) = d
 
+-- The line of a copy, for a core that holds it.
+abbrev pub held_line : PrivateLine → Option (List ℕ)
+held_line Invalid = None
+held_line (Shared d) = Some d
+held_line (Exclusive d) = Some d
+held_line (Modified d) = Some d
+
+-- The line of an M copy.
+abbrev pub modified_line : PrivateLine → Option (List ℕ)
+modified_line Invalid = None
+modified_line (Shared d) = None
+modified_line (Exclusive d) = None
+modified_line (Modified d) = Some d
+
 -- A loader's new copy is S if another core holds the line, else E.
 abbrev pub fetched : Bool → List ℕ → PrivateLine
 fetched true line = Shared line
 fetched false line = Exclusive line
-
--- Some core's copy passes the test.
-abbrev pub some : (PrivateLine → Bool) → List PrivateLine → Bool
-some test [] = false
-some test (x ∷ xs) = test x || some test xs
 
 -- The line of an M copy, or the given line where there is none.
 abbrev pub modified_or : List ℕ → List PrivateLine → List ℕ
@@ -67,6 +77,6 @@ modified_or line (Modified d ∷ xs) = d
 abbrev pub owner_alone : List PrivateLine → Bool
 owner_alone [] = true
 owner_alone (Invalid ∷ xs) = owner_alone xs
-owner_alone (Shared d ∷ xs) = not (some owns xs)
-owner_alone (Exclusive d ∷ xs) = not (some holds xs)
-owner_alone (Modified d ∷ xs) = not (some holds xs)
+owner_alone (Shared d ∷ xs) = not (list_any owns xs)
+owner_alone (Exclusive d ∷ xs) = not (list_any holds xs)
+owner_alone (Modified d ∷ xs) = not (list_any holds xs)

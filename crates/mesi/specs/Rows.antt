@@ -1,20 +1,20 @@
 -- The rules of the bus for one line, state by event.
 use Rattle.std.specs.Prelude.{ℕ, List, map, replicate, slice_index, slice_index_or, slice_set}
+use Rattle.std.specs.List.{list_any}
 use Rattle.mesi.specs.declared.copies.PrivateLine.{PrivateLine}
 use Rattle.mesi.specs.declared.copies.PrivateLine.TheVariants.{Invalid, Shared, Exclusive, Modified}
-use Rattle.mesi.specs.declared.rows.Row.{Row}
-use Rattle.mesi.specs.declared.rows.operations.Call.{Call}
-use Rattle.mesi.specs.declared.rows.operations.Call.TheVariants.{Load, Store, Evict}
-use Rattle.mesi.specs.Copies.{holds, downgraded, held_or, fetched, some, modified_or}
+use Rattle.mesi.specs.Copies.{holds, downgraded, held_or, fetched, modified_or}
 
 -- A line's row: its copies by core, and the LLC's line.
 pub record LineRow : Type 0 where
   pub copies : List PrivateLine
   pub llc : List ℕ
 
--- The code's row, as the rules see it.
-abbrev pub row_of : Row → LineRow
-row_of r = record { copies = r.copies; llc = r.llc }
+-- A core's call, as its line's row sees it.
+pub data Call : Type 0 where
+  Load : Call
+  Store : Call
+  Evict : Call
 
 -- After a clear every core has I, and the LLC's bytes are 00.
 abbrev pub cleared_row : LineRow
@@ -46,7 +46,7 @@ flushed r = record { copies = r.copies; llc = home_line r }
 
 -- M or E becomes S, and core c takes the LLC's line: as S if another core holds it, else as E.
 abbrev pub taken : LineRow → ℕ → LineRow
-taken r c = record { copies = slice_set (map downgraded r.copies) c (fetched (some holds r.copies) r.llc); llc = r.llc }
+taken r c = record { copies = slice_set (map downgraded r.copies) c (fetched (list_any holds r.copies) r.llc); llc = r.llc }
 
 -- What goes over the bus at a call, by the state of the caller's copy. Load or store in I: another core's M line goes into the
 -- LLC first, then the caller takes the line. Evict of an M line puts it into the LLC. Elsewhere nothing.

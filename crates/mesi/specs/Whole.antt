@@ -1,14 +1,12 @@
 -- A row whose copies all have one line: what the bus does keeps them so, and a store changes that line at one offset.
 use Rattle.std.specs.Prelude.{◌≡◌, ℕ, zero, suc, ◌<◌, Bool, true, false, List, [], ◌∷◌, map, replicate, slice_index_or, slice_set, refl}
 use Rattle.std.proofs.Common.{sym, ap, subst, ◌∙◌, arith}
-use Rattle.std.specs.List.{AllByRecursion}
+use Rattle.std.specs.List.{AllByRecursion, list_any}
 use Rattle.std.proofs.ByRecursion.{All-set, All-map, All-weaker}
 use Rattle.mesi.specs.declared.copies.PrivateLine.{PrivateLine}
 use Rattle.mesi.specs.declared.copies.PrivateLine.TheVariants.{Invalid, Shared, Exclusive, Modified}
-use Rattle.mesi.specs.declared.rows.operations.Call.{Call}
-use Rattle.mesi.specs.declared.rows.operations.Call.TheVariants.{Load, Store, Evict}
-use Rattle.mesi.specs.Copies.{holds, downgraded, held_or, fetched, some, modified_or}
-use Rattle.mesi.specs.Rows.{LineRow, copy_at, home_line, seen_line, flushed, taken, transaction, transacted, finished, loaded, stored, evicted}
+use Rattle.mesi.specs.Copies.{holds, downgraded, held_or, fetched, modified_or}
+use Rattle.mesi.specs.Rows.{LineRow, Call, Load, Store, Evict, copy_at, home_line, seen_line, flushed, taken, transaction, transacted, finished, loaded, stored, evicted}
 
 -- What holds of the default and of each element holds of each place.
 pub all_at : {X : Type 0} (P : X → Type 0) (xs : List X) (i : ℕ) (d : X) → P d → AllByRecursion P xs → P (slice_index_or xs i d)
@@ -81,8 +79,8 @@ pub record RowFacts : Type 0 where
 pub fetched_whole : (line : List ℕ) (r : LineRow) (c : ℕ) → Whole line r → Whole line (taken (record { copies = r.copies; llc = home_line r }) c)
 fetched_whole line r c h =
     let same : AllByRecursion (CopyOf line) (taken (record { copies = r.copies; llc = home_line r }) c).copies =
-    All-set (CopyOf line) (map downgraded r.copies) c (fetched (some holds r.copies) (home_line r))
-    (fetched_is line (home_line r) (some holds r.copies) h.home)
+    All-set (CopyOf line) (map downgraded r.copies) c (fetched (list_any holds r.copies) (home_line r))
+    (fetched_is line (home_line r) (list_any holds r.copies) h.home)
     (All-map (CopyOf line) downgraded r.copies (All-weaker (CopyOf line) (λ x. CopyOf line (downgraded x)) (downgraded_is line) r.copies h.same)) in
     record {
       home = in_llc line (home_line r) (taken (record { copies = r.copies; llc = home_line r }) c).copies h.home same;

@@ -1,12 +1,15 @@
 //! The protocol: a row for each of the eight lines.
 
 ghost use Rattle.std.specs.Prelude.{◌≡◌, refl};
-ghost use Rattle.mesi.specs.Bus.{state_of, start, home_byte, load_leaves, load_answers, store_leaves, evict_leaves, mesi_machine};
+ghost use Rattle.protocol.specs.declared.steps.Step.TheVariants.{Load, Store, Evict};
+ghost use Rattle.protocol.specs.Rules.{guarded};
+ghost use Rattle.mesi.specs.Bus.{State, start, home_byte, act, moment, replied, mesi_machine};
 ghost use Rattle.mesi.specs.Law;
 ghost use Rattle.mesi.specs.Whole;
 
 use crate::rows::Row;
 use protocol::{Address, Core, Ended, Line, Protocol, Refusal, Reply};
+use std::marker::Model;
 
 /// Bus MESI, a row for each line.
 #[derive(Drop)]
@@ -14,51 +17,69 @@ pub struct Mesi {
     rows: [Row; 8],
 }
 
+impl Model for Mesi {
+    ghost Value = { State };
+
+    ghost view = { λ m. m.rows };
+}
+
+/// The reply to a call: it is refused, or it ends at once.
+fn reply(call: Result<Ended, Refusal>) -> Reply
+    ensures { result ≡ replied call }
+{
+    call.map_or_else(Reply::Refused, Reply::Ended)
+}
+
 impl Mesi {
     /// Every core has I of every line, and the LLC's bytes are 00.
     pub fn new() -> Mesi
-        ensures { state_of result ≡ start }
+        ensures { result ≡ start }
     {
         Mesi {
             rows: [Row::cleared(); 8],
         }
     }
 
-    /// Loads the byte of an address in its row.
-    fn load_byte(&mut self, core: Core, address: Address) -> u8
-        ensures rows { state_of self.new ≡ load_leaves (state_of self.old) core.number address.number }
-        ensures byte { result ≡ load_answers (state_of self.old) core.number address.number }
+    fn try_load(&mut self, core: u8, address: u8) -> Result<Ended, Refusal>
+        ensures { (replied result, self.new) ≡ guarded moment act self.old (Load core address) }
     {
-        self.rows[address.line().index()].load(core, address.offset())
+        let loader = Core::try_from(core)?;
+        let at = Address::try_from(address)?;
+        let byte = self.rows[at.line().index()].load(loader, at.offset());
+        Ok(Ended::Loaded {
+            core,
+            address,
+            byte,
+        })
     }
 
-    /// Stores the byte of an address in its row.
-    fn store_byte(&mut self, core: Core, address: Address, byte: u8)
-        ensures { state_of self.new ≡ store_leaves (state_of self.old) core.number address.number byte }
+    fn try_store(&mut self, core: u8, address: u8, byte: u8) -> Result<Ended, Refusal>
+        ensures { (replied result, self.new) ≡ guarded moment act self.old (Store core address byte) }
     {
-        self.rows[address.line().index()].store(core, address.offset(), byte);
+        let storer = Core::try_from(core)?;
+        let at = Address::try_from(address)?;
+        self.rows[at.line().index()].store(storer, at.offset(), byte);
+        Ok(Ended::Stored {
+            core,
+            address,
+            byte,
+        })
     }
 
-    /// Evicts a core's copy from the line's row.
-    fn evict_line(&mut self, core: Core, line: Line)
-        ensures { state_of self.new ≡ evict_leaves (state_of self.old) core.number line.number }
+    fn try_evict(&mut self, core: u8, line: u8) -> Result<Ended, Refusal>
+        ensures { (replied result, self.new) ≡ guarded moment act self.old (Evict core line) }
     {
-        self.rows[line.index()].evict(core);
-    }
-
-    /// The byte of an address at home.
-    fn home_byte(&self, address: Address) -> u8
-        ensures { result ≡ home_byte (state_of self.now) address.number }
-    {
-        let line = self.rows[address.line().index()].home();
-        line[address.offset().index()]
+        let evictor = Core::try_from(core)?;
+        let gone = Line::try_from(line)?;
+        self.rows[gone.index()].evict(evictor);
+        Ok(Ended::Evicted { core, line })
     }
 }
 
 impl Protocol for Mesi {
     ghost machine = { mesi_machine };
 
-    ghost state = { state_of };
+    ghost state = { λ m. m };
 
     ghost keeps = { Law.keeps (record { rows = record { take = Whole.fetched_whole; finish = Whole.finished_whole }; sees = Law.sees_home; due = refl }) };
 
@@ -67,58 +88,23 @@ impl Protocol for Mesi {
     }
 
     fn load(&mut self, core: u8, address: u8) -> Reply {
-        let Ok(loader) = Core::try_from(core) else {
-            return Reply::Refused(Refusal::NoSuchCore);
-        };
-        let Ok(at) = Address::try_from(address) else {
-            return Reply::Refused(Refusal::NoSuchAddress);
-        };
-        let byte = self.load_byte(loader, at);
-        Reply::Ended(Ended::Loaded {
-            core,
-            address,
-            byte,
-        })
+        reply(self.try_load(core, address))
     }
 
     fn store(&mut self, core: u8, address: u8, byte: u8) -> Reply {
-        let Ok(storer) = Core::try_from(core) else {
-            return Reply::Refused(Refusal::NoSuchCore);
-        };
-        let Ok(at) = Address::try_from(address) else {
-            return Reply::Refused(Refusal::NoSuchAddress);
-        };
-        self.store_byte(storer, at, byte);
-        Reply::Ended(Ended::Stored {
-            core,
-            address,
-            byte,
-        })
+        reply(self.try_store(core, address, byte))
     }
 
     fn acquire(&mut self, core: u8) -> Reply {
-        match Core::try_from(core) {
-            Err(refusal) => Reply::Refused(refusal),
-            Ok(_) => Reply::Ended(Ended::Acquired { core }),
-        }
+        reply(Core::try_from(core).map(|_| Ended::Acquired { core }))
     }
 
     fn release(&mut self, core: u8) -> Reply {
-        match Core::try_from(core) {
-            Err(refusal) => Reply::Refused(refusal),
-            Ok(_) => Reply::Ended(Ended::Released { core }),
-        }
+        reply(Core::try_from(core).map(|_| Ended::Released { core }))
     }
 
     fn evict(&mut self, core: u8, line: u8) -> Reply {
-        let Ok(evictor) = Core::try_from(core) else {
-            return Reply::Refused(Refusal::NoSuchCore);
-        };
-        let Ok(gone) = Line::try_from(line) else {
-            return Reply::Refused(Refusal::NoSuchAddress);
-        };
-        self.evict_line(evictor, gone);
-        Reply::Ended(Ended::Evicted { core, line })
+        reply(self.try_evict(core, line))
     }
 
     fn move_message(&mut self, _place: u8) -> Reply {
@@ -127,7 +113,8 @@ impl Protocol for Mesi {
 
     fn image(&self, address: u8) -> Result<u8, Refusal> {
         let at = Address::try_from(address)?;
-        Ok(self.home_byte(at))
+        let line = self.rows[at.line().index()].home();
+        Ok(line[at.offset().index()])
     }
 
     fn next_open(&self, _place: u8) -> Option<u8> {

@@ -1,7 +1,9 @@
 //! One core's copy of a line, and the copies of all cores.
 
-ghost use Rattle.std.specs.Prelude.{◌≡◌, map, slice_index};
-ghost use Rattle.mesi.specs.Copies.{holds, is_modified, written, held_or, downgraded, fetched, some, modified_or};
+ghost use Rattle.std.specs.Prelude.{◌≡◌, map};
+ghost use Rattle.std.specs.List.{list_any};
+ghost use Rattle.std.specs.Option.{option_copied};
+ghost use Rattle.mesi.specs.Copies.{holds, is_modified, written, held_line, modified_line, downgraded, fetched, modified_or};
 
 use protocol::Offset;
 
@@ -15,36 +17,40 @@ pub enum PrivateLine {
 }
 
 impl PrivateLine {
-    /// Whether the core holds the line.
-    pub fn holds(self) -> bool
-        ensures { result ≡ holds self }
+    /// The line, if the core holds it.
+    pub fn held(&self) -> Option<&[u8; 8]>
+        ensures { option_copied result ≡ held_line self.now }
     {
         match self {
-            PrivateLine::Invalid => false,
-            PrivateLine::Shared(_) | PrivateLine::Exclusive(_) | PrivateLine::Modified(_) => true,
+            PrivateLine::Invalid => None,
+            PrivateLine::Shared(line)
+            | PrivateLine::Exclusive(line)
+            | PrivateLine::Modified(line) => Some(line),
         }
+    }
+
+    /// The line, if the core has it in M.
+    pub fn modified(&self) -> Option<&[u8; 8]>
+        ensures { option_copied result ≡ modified_line self.now }
+    {
+        match self {
+            PrivateLine::Modified(line) => Some(line),
+            _ => None,
+        }
+    }
+
+    /// Whether the core holds the line.
+    pub fn holds(&self) -> bool
+        ensures { result ≡ holds self.now }
+    {
+        !matches!(self, PrivateLine::Invalid)
     }
 
     /// Whether the core has the line in M.
-    pub fn is_modified(self) -> bool
-        ensures { result ≡ is_modified self }
+    pub fn is_modified(&self) -> bool
+        ensures { result ≡ is_modified self.now }
     {
-        match self {
-            PrivateLine::Modified(_) => true,
-            PrivateLine::Invalid | PrivateLine::Shared(_) | PrivateLine::Exclusive(_) => false,
-        }
-    }
-
-    /// The byte of the copy, or the given line's where the core holds none.
-    pub fn byte_or(&self, line: &[u8; 8], offset: Offset) -> u8
-        ensures { result ≡ slice_index (held_or line.now self.now) offset.number }
-    {
-        match self {
-            PrivateLine::Invalid => line[offset.index()],
-            PrivateLine::Shared(own) => own[offset.index()],
-            PrivateLine::Exclusive(own) => own[offset.index()],
-            PrivateLine::Modified(own) => own[offset.index()],
-        }
+        matches!(self, PrivateLine::Modified(_))
     }
 
     /// Writes a byte of an M copy.
@@ -60,12 +66,8 @@ impl PrivateLine {
     pub fn downgraded(self) -> PrivateLine
         ensures { result ≡ downgraded self }
     {
-        match self {
-            PrivateLine::Invalid => PrivateLine::Invalid,
-            PrivateLine::Shared(line)
-            | PrivateLine::Exclusive(line)
-            | PrivateLine::Modified(line) => PrivateLine::Shared(line),
-        }
+        self.held()
+            .map_or(PrivateLine::Invalid, |line| PrivateLine::Shared(*line))
     }
 }
 
@@ -91,24 +93,17 @@ pub fn downgrade(copies: &mut [PrivateLine; 8])
 
 /// Whether some core holds the line.
 pub fn some_hold(copies: &[PrivateLine; 8]) -> bool
-    ensures { result ≡ some holds copies.now }
+    ensures { result ≡ list_any holds copies.now }
 {
-    for copy in copies {
-        if copy.holds() {
-            return true;
-        }
-    }
-    false
+    copies.iter().any(|copy| copy.holds())
 }
 
 /// The line of an M copy, or the given line where there is none.
-pub fn modified_or(copies: &[PrivateLine; 8], line: [u8; 8]) -> [u8; 8]
-    ensures { result ≡ modified_or line copies.now }
+pub fn modified_or<'a>(copies: &'a [PrivateLine; 8], line: &'a [u8; 8]) -> &'a [u8; 8]
+    ensures { result.now ≡ modified_or line.now copies.now }
 {
-    for copy in copies {
-        if let PrivateLine::Modified(newest) = *copy {
-            return newest;
-        }
-    }
-    line
+    copies
+        .iter()
+        .find_map(|copy| copy.modified())
+        .unwrap_or(line)
 }

@@ -1,16 +1,128 @@
 //! A line's row: its copies at the eight cores, and the LLC's line.
 
-mod operations;
-
 ghost use Rattle.std.specs.Prelude.{◌≡◌, true};
 ghost use Rattle.mesi.specs.Copies.{owner_alone};
+ghost use Rattle.mesi.specs.Rows.{LineRow, Load, Store, cleared_row, home_line, seen_line, seen_at, flushed, taken, transacted, finished, owned, loaded, stored, evicted};
 
-use crate::copies::PrivateLine;
+use crate::copies::{PrivateLine, downgrade, fetched, modified_or, some_hold};
+use protocol::{Core, Offset};
+use std::marker::Model;
 
 /// The copies of one line by core, and the LLC's line. Where a core has M or E, every other core has I.
 #[derive(Clone, Copy)]
 pub struct Row {
     copies: [PrivateLine; 8],
     llc: [u8; 8],
-    ghost alone: { owner_alone copies ≡ true },
+}
+
+impl Model for Row {
+    ghost Value = { LineRow };
+
+    ghost view = { λ r. record { copies = r.copies; llc = r.llc } };
+
+    ghost invariant = { λ r. owner_alone r.copies ≡ true };
+
+    ghost inverse = { λ r. record { copies = r.copies; llc = r.llc } };
+}
+
+impl Row {
+    /// I at every core, and 00 in the LLC.
+    pub fn cleared() -> Row
+        ensures { result ≡ cleared_row }
+    {
+        Row {
+            copies: [PrivateLine::Invalid; 8],
+            llc: [0; 8],
+        }
+    }
+
+    /// The M copy, else the LLC's line.
+    pub fn home(&self) -> &[u8; 8]
+        ensures { result.now ≡ home_line self.now }
+    {
+        modified_or(&self.copies, &self.llc)
+    }
+
+    /// The core's own copy if it holds the line, else home.
+    fn seen(&self, core: Core) -> &[u8; 8]
+        ensures { result.now ≡ seen_line self.now core.number }
+    {
+        self.copies[core.index()]
+            .held()
+            .unwrap_or_else(|| self.home())
+    }
+
+    /// A core's M line goes into the LLC.
+    fn flush(&mut self)
+        ensures { self.new ≡ flushed self.old }
+    {
+        self.llc = *self.home();
+    }
+
+    /// M or E becomes S, and the core takes the LLC's line: as S if another core holds it, else as E.
+    fn take(&mut self, core: Core)
+        ensures { self.new ≡ taken self.old core.number }
+    {
+        let others_hold = some_hold(&self.copies);
+        downgrade(&mut self.copies);
+        self.copies[core.index()] = fetched(others_hold, self.llc);
+    }
+
+    /// What goes over the bus at a load or a store: a core that does not hold the line takes it, an M line having gone into the LLC.
+    fn fetch(&mut self, core: Core)
+        ensures load { self.new ≡ transacted self.old core.number Load }
+        ensures store { self.new ≡ transacted self.old core.number Store }
+    {
+        if !self.copies[core.index()].holds() {
+            self.flush();
+            self.take(core);
+        }
+    }
+
+    /// The core has the line in M, and all others have I.
+    fn finish(&mut self, core: Core, line: [u8; 8])
+        ensures { self.new ≡ finished self.old core.number line }
+    {
+        self.copies = [PrivateLine::Invalid; 8];
+        self.copies[core.index()] = PrivateLine::Modified(line);
+    }
+
+    /// The core gets the line for a store. Where it has it in M already, all others have I.
+    fn own(&mut self, core: Core)
+        ensures { self.new ≡ owned self.old core.number }
+    {
+        if self.copies[core.index()].is_modified() {
+            return;
+        }
+        self.fetch(core);
+        let line = *self.seen(core);
+        self.finish(core, line);
+    }
+
+    /// Answers the byte that the core then sees.
+    pub fn load(&mut self, core: Core, offset: Offset) -> u8
+        ensures row { self.new ≡ loaded self.old core.number }
+        ensures byte { result ≡ seen_at (loaded self.old core.number) core.number offset.number }
+    {
+        self.fetch(core);
+        self.seen(core)[offset.index()]
+    }
+
+    /// Writes the byte into the line that the core then has in M.
+    pub fn store(&mut self, core: Core, offset: Offset, byte: u8)
+        ensures { self.new ≡ stored self.old core.number offset.number byte }
+    {
+        self.own(core);
+        self.copies[core.index()].write(offset, byte);
+    }
+
+    /// An M line goes into the LLC. Leaves I at the core.
+    pub fn evict(&mut self, core: Core)
+        ensures { self.new ≡ evicted self.old core.number }
+    {
+        if let PrivateLine::Modified(line) = self.copies[core.index()] {
+            self.llc = line;
+        }
+        self.copies[core.index()] = PrivateLine::Invalid;
+    }
 }

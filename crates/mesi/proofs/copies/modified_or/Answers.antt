@@ -1,14 +1,28 @@
--- A search that stops at the first M copy.
-use Rattle.std.proofs.Common.{rules}
-use Rattle.std.proofs.lemmas.List.{at_drop_more, at_drop_all}
-use Rattle.mesi.specs.Copies.{modified_or}
+-- The line of the first M copy.
+use Rattle.std.proofs.Common.{◌≡◌, List, ℕ, [], ◌∷◌, Some, None, Option, Bor, refl, ap, ◌∙◌, rules}
+use Rattle.std.specs.Option.{option_map, unwrap_or}
+use Rattle.mesi.specs.declared.copies.PrivateLine.{PrivateLine}
+use Rattle.mesi.specs.declared.copies.PrivateLine.TheVariants.{Invalid, Shared, Exclusive, Modified}
+use Rattle.mesi.specs.Copies.{modified_line, modified_or}
+use Rattle.mesi.proofs.FindMap.{first, first_from_find_map}
 use Rattle.mesi.proofs.copies.modified_or.Goals as goal
 
-pub returns-in-Modified : goal.returns-in-Modified
-returns-in-Modified c = search (rules, at_drop_more (modified_or c.args.line))
+first_modified : (line : List ℕ) (xs : List PrivateLine) → unwrap_or (first modified_line xs) line ≡ modified_or line xs
+first_modified line [] = refl
+first_modified line (Invalid ∷ xs) = first_modified line xs
+first_modified line (Shared d ∷ xs) = first_modified line xs
+first_modified line (Exclusive d ∷ xs) = first_modified line xs
+first_modified line (Modified d ∷ xs) = refl
 
-pub loop-copy-preserved : goal.loop-copy-preserved
-loop-copy-preserved c = search (rules, at_drop_more (modified_or c.args.line))
+unwrapped : (r : Option (Bor (List ℕ))) (line : Bor (List ℕ)) → (unwrap_or r line).now ≡ unwrap_or (option_map (λ x. x.now) r) line.now
+unwrapped None line = refl
+unwrapped (Some x) line = refl
 
 pub returns : goal.returns
-returns c = search (rules, at_drop_all (modified_or c.args.line))
+returns c =
+    let p = c.find_map.ensures.runs in
+    let found : option_map (λ x. x.now) c.find_map.result ≡ first modified_line p.0.from.rest.now =
+    first_from_find_map (λ x. x.now) (λ x. x.now) _ _ modified_line (λ x r k. search rules) _ c.find_map.result p.0 (λ x r q k. search rules) (c.iter.ensures.runs p.0 p.0.seen) p.2 in
+    let all : p.0.from.rest.now ≡ c.args.copies.now = ap (λ s. s.rest.now) p.1 ∙ c.iter.ensures.rest in
+    ap (λ x. x.now) c.unwrap_or.ensures ∙ unwrapped c.find_map.result c.args.line ∙ ap (λ r. unwrap_or r c.args.line.now) (found ∙ ap (first modified_line) all)
+    ∙ first_modified c.args.line.now c.args.copies.now

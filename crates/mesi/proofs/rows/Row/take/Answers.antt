@@ -3,4 +3,4 @@ use Rattle.mesi.proofs.Alone.{alone_fetched}
 use Rattle.mesi.proofs.rows.Row.take.Goals as goal
 
 pub invariant_of-self : goal.invariant_of-self
-invariant_of-self c = let e = alone_fetched c.args.self.now.copies c.args.core.number c.args.self.now.llc in record { alone = cc }
+invariant_of-self c = let e = alone_fetched c.self.inside.copies c.args.core.number c.self.inside.llc in cc
