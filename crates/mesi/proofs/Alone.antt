@@ -2,9 +2,9 @@
 use Rattle.std.proofs.Common.{◌≡◌, ℕ, zero, suc, Bool, true, false, not, List, [], ◌∷◌, map, length, get_or, set, replicate, sym, refl, ap, ◌∙◌}
 use Rattle.std.specs.List.{list_any}
 use Rattle.std.proofs.lemmas.Bool.{true≢false, false≢true, not-true, or_parts, or_from}
-use Rattle.mesi.specs.declared.copies.PrivateLine.{PrivateLine}
-use Rattle.mesi.specs.declared.copies.PrivateLine.TheVariants.{Invalid, Shared, Exclusive, Modified}
-use Rattle.mesi.specs.Copies.{holds, owns, is_modified, downgraded, fetched, owner_alone}
+use Rattle.mesi_rules.specs.declared.copies.PrivateLine.{PrivateLine}
+use Rattle.mesi_rules.specs.declared.copies.PrivateLine.TheVariants.{Invalid, Shared, Exclusive, Modified}
+use Rattle.mesi_rules.specs.Copies.{holds, owns, is_modified, downgraded, fetched, owner_alone}
 
 -- A copy that fails a test joins others that fail it.
 none_set : (test : PrivateLine → Bool) (xs : List PrivateLine) (c : ℕ) (x : PrivateLine) → test x ≡ false → list_any test xs ≡ false → list_any test (set xs c x) ≡ false

@@ -1,4 +1,3 @@
 pub mod Alone
-pub mod Law
 pub mod Owned
 pub mod FindMap

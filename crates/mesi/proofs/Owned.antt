@@ -1,10 +1,10 @@
 -- A core that has a line in M has it for a store already.
 use Rattle.std.proofs.Common.{◌≡◌, ℕ, true, List, length, set, replicate, sym, refl, ap, ◌∙◌}
 use Rattle.std.proofs.lemmas.Bool.{false≢true}
-use Rattle.mesi.specs.declared.copies.PrivateLine.{PrivateLine}
-use Rattle.mesi.specs.declared.copies.PrivateLine.TheVariants.{Invalid, Shared, Exclusive, Modified}
-use Rattle.mesi.specs.Copies.{is_modified, held_or, owner_alone}
-use Rattle.mesi.specs.Rows.{LineRow, Store, copy_at, home_line, seen_line, transaction, finished, owned}
+use Rattle.mesi_rules.specs.declared.copies.PrivateLine.{PrivateLine}
+use Rattle.mesi_rules.specs.declared.copies.PrivateLine.TheVariants.{Invalid, Shared, Exclusive, Modified}
+use Rattle.mesi_rules.specs.Copies.{is_modified, held_or, owner_alone}
+use Rattle.mesi_rules.specs.Rows.{LineRow, Store, copy_at, home_line, seen_line, transaction, finished, owned}
 use Rattle.mesi.proofs.Alone.{alone_modified}
 
 pub own_modified : (r : LineRow) (c : ℕ) → length r.copies ≡ 8 → owner_alone r.copies ≡ true → is_modified (copy_at r c) ≡ true → r ≡ owned r c

@@ -1,5 +1,1 @@
-pub mod Bus
-pub mod Copies
-pub mod Rows
-pub mod Law
-pub mod Whole
+pub mod Replies

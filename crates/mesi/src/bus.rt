@@ -1,11 +1,11 @@
 //! The protocol: a row for each of the eight lines.
 
-ghost use Rattle.std.specs.Prelude.{◌≡◌, refl};
+ghost use Rattle.std.specs.Prelude.{◌≡◌};
 ghost use Rattle.protocol.specs.declared.steps.Step.TheVariants.{Load, Store, Evict};
 ghost use Rattle.protocol.specs.Rules.{guarded};
-ghost use Rattle.mesi.specs.Bus.{State, start, home_byte, act, moment, replied, mesi_machine};
-ghost use Rattle.mesi.specs.Law;
-ghost use Rattle.mesi.specs.Whole;
+ghost use Rattle.mesi_rules.specs.Bus.{State, start, act, moment, mesi_machine};
+ghost use Rattle.mesi_rules.proofs.Law.{keeps};
+ghost use Rattle.mesi.specs.Replies.{replied};
 
 use crate::rows::Row;
 use protocol::{Address, Core, Ended, Line, Protocol, Refusal, Reply};
@@ -40,6 +40,7 @@ impl Mesi {
         }
     }
 
+    /// Loads the byte of an address in its row.
     fn try_load(&mut self, core: u8, address: u8) -> Result<Ended, Refusal>
         ensures { (replied result, self.new) ≡ guarded moment act self.old (Load core address) }
     {
@@ -53,6 +54,7 @@ impl Mesi {
         })
     }
 
+    /// Stores the byte of an address in its row.
     fn try_store(&mut self, core: u8, address: u8, byte: u8) -> Result<Ended, Refusal>
         ensures { (replied result, self.new) ≡ guarded moment act self.old (Store core address byte) }
     {
@@ -66,6 +68,7 @@ impl Mesi {
         })
     }
 
+    /// Evicts a core's copy from the line's row.
     fn try_evict(&mut self, core: u8, line: u8) -> Result<Ended, Refusal>
         ensures { (replied result, self.new) ≡ guarded moment act self.old (Evict core line) }
     {
@@ -81,7 +84,7 @@ impl Protocol for Mesi {
 
     ghost state = { λ m. m };
 
-    ghost keeps = { Law.keeps (record { rows = record { take = Whole.fetched_whole; finish = Whole.finished_whole }; sees = Law.sees_home; due = refl }) };
+    ghost keeps = { keeps };
 
     fn clear(&mut self) {
         *self = Mesi::new();

@@ -1,10 +1,11 @@
 //! A line's row: its copies at the eight cores, and the LLC's line.
 
 ghost use Rattle.std.specs.Prelude.{◌≡◌, true};
-ghost use Rattle.mesi.specs.Copies.{owner_alone};
-ghost use Rattle.mesi.specs.Rows.{LineRow, Load, Store, cleared_row, home_line, seen_line, seen_at, flushed, taken, transacted, finished, owned, loaded, stored, evicted};
+ghost use Rattle.mesi_rules.specs.Copies.{owner_alone};
+ghost use Rattle.mesi_rules.specs.Rows.{LineRow, Load, Store, cleared_row, home_line, seen_line, seen_at, flushed, taken, transacted, finished, owned, loaded, stored, evicted};
 
-use crate::copies::{PrivateLine, downgrade, fetched, modified_or, some_hold};
+use crate::copies::{downgrade, fetched, modified_or, some_hold};
+use mesi_rules::PrivateLine;
 use protocol::{Core, Offset};
 use std::marker::Model;
 

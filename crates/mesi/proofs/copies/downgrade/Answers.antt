@@ -2,7 +2,7 @@
 use Rattle.std.proofs.Common.{rules}
 use Rattle.std.proofs.lemmas.List.{take_all, drop_all}
 use Rattle.std.proofs.lemmas.List.Edits.{map_over_more}
-use Rattle.mesi.specs.Copies.{downgraded}
+use Rattle.mesi_rules.specs.Copies.{downgraded}
 use Rattle.mesi.proofs.copies.downgrade.Goals as goal
 
 pub loop-copy-preserved : goal.loop-copy-preserved

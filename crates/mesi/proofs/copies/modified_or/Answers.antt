@@ -1,18 +1,18 @@
 -- The line of the first M copy.
 use Rattle.std.proofs.Common.{◌≡◌, List, ℕ, [], ◌∷◌, Some, None, Option, Bor, refl, ap, ◌∙◌, rules}
 use Rattle.std.specs.Option.{option_map, unwrap_or}
-use Rattle.mesi.specs.declared.copies.PrivateLine.{PrivateLine}
-use Rattle.mesi.specs.declared.copies.PrivateLine.TheVariants.{Invalid, Shared, Exclusive, Modified}
-use Rattle.mesi.specs.Copies.{modified_line, modified_or}
+use Rattle.mesi_rules.specs.declared.copies.PrivateLine.{PrivateLine}
+use Rattle.mesi_rules.specs.Copies.{modified_line, modified_or}
 use Rattle.mesi.proofs.FindMap.{first, first_from_find_map}
 use Rattle.mesi.proofs.copies.modified_or.Goals as goal
 
+first_or : (o : Option (List ℕ)) (line below : List ℕ) (rest : Option (List ℕ)) → unwrap_or rest line ≡ below → unwrap_or (elim o [ None ↦ rest | Some y ↦ Some y ]) line ≡ unwrap_or o below
+first_or None line below rest e = e
+first_or (Some y) line below rest e = refl
+
 first_modified : (line : List ℕ) (xs : List PrivateLine) → unwrap_or (first modified_line xs) line ≡ modified_or line xs
 first_modified line [] = refl
-first_modified line (Invalid ∷ xs) = first_modified line xs
-first_modified line (Shared d ∷ xs) = first_modified line xs
-first_modified line (Exclusive d ∷ xs) = first_modified line xs
-first_modified line (Modified d ∷ xs) = refl
+first_modified line (x ∷ xs) = first_or (modified_line x) line (modified_or line xs) (first modified_line xs) (first_modified line xs)
 
 unwrapped : (r : Option (Bor (List ℕ))) (line : Bor (List ℕ)) → (unwrap_or r line).now ≡ unwrap_or (option_map (λ x. x.now) r) line.now
 unwrapped None line = refl

@@ -15,10 +15,10 @@ use Rattle.protocol.specs.Moment.{View, Drift, Drifts, stay, drift, StoreLands, 
 use Rattle.protocol.specs.Meaning.{Meaning, Brings, Ends, refused_in}
 use Rattle.protocol.specs.Steps.{Fit, call_of}
 use Rattle.protocol.proofs.ByRules.{Kept, keeps_meaning}
-use Rattle.mesi.specs.declared.copies.PrivateLine.TheVariants.{Invalid}
-use Rattle.mesi.specs.Rows.{LineRow, cleared_row, home_line, home_at, seen_at, loaded, stored, evicted}
-use Rattle.mesi.specs.Bus.{State, start, row_at, row_of_address, load_leaves, load_answers, store_leaves, evict_leaves, act, moment, seen_byte, mesi_machine}
-use Rattle.mesi.specs.Whole.{all_at, all_replicate, CopyOf, Whole, RowFacts, seen_whole, loaded_whole, stored_whole, evicted_whole}
+use Rattle.mesi_rules.specs.declared.copies.PrivateLine.TheVariants.{Invalid}
+use Rattle.mesi_rules.specs.Rows.{LineRow, cleared_row, home_line, home_at, seen_at, loaded, stored, evicted}
+use Rattle.mesi_rules.specs.Bus.{State, start, row_at, row_of_address, load_leaves, load_answers, store_leaves, evict_leaves, act, moment, mesi_machine}
+use Rattle.mesi_rules.proofs.Whole.{all_at, all_replicate, CopyOf, Whole, seen_whole, loaded_whole, stored_whole, evicted_whole}
 
 -- A row has one line of eight bytes: it is at home, and every copy is that line.
 record Sound (r : LineRow) : Type 0 where
@@ -52,16 +52,8 @@ inv_set s l r lt i h =
           (cases_eq k l);
     }
 
--- The facts of the rules that the law stands on.
-pub record Facts : Type 0 where
-  pub rows : RowFacts
-  -- every core sees home
-  pub sees : (s : State) → Inv s → (c a : ℕ) → (view s).sees c a ≡ (view s).home a
-  -- nothing is due after a clear
-  pub due : (moment start).due ≡ 0
-
 -- A core that sees its own copy, or home where it has none, sees home.
-pub sees_home : (s : State) → Inv s → (c a : ℕ) → seen_byte s c a ≡ (view s).home a
+pub sees_home : (s : State) → Inv s → (c a : ℕ) → (view s).sees c a ≡ (view s).home a
 sees_home s i c a =
     let h = i.sound (line_of a) in
     ap (λ (x : List ℕ). slice_index x (offset_of a)) (seen_whole h.line (row_of_address s a) c h.whole ∙ sym h.whole.home)
@@ -81,29 +73,29 @@ home_kept s l r lt i e a =
     (cases_eq (line_of a) l)
 
 -- A drift to a state where every core sees home and nobody owes.
-settles : Facts → (m : View) (t : State) → Inv t
+settles : (m : View) (t : State) → Inv t
     → ((a : ℕ) → a < 64 → NobodyOwes m a → (view t).home a ≡ m.home a)
     → ((a : ℕ) → a < 64 → Owed m a → (c : ℕ) × (c < 8) × (m.owes c a ≡ true) × ((view t).home a ≡ m.sees c a))
     → Drift m (view t)
-settles q m t i stays taken =
+settles m t i stays taken =
     record {
       no_new_debt = λ c a _ _ e. absurd (false≢true e);
       home_stays = stays;
       home_taken = λ a lt o _. taken a lt o;
       debtor_sees = λ c a _ _ e. absurd (false≢true e);
-      other_sees = λ c a _ _ _. inr (q.sees t i c a);
+      other_sees = λ c a _ _ _. inr (sees_home t i c a);
     }
 
-quiet : Facts → (s t : State) → Inv t → ((a : ℕ) → (view t).home a ≡ (view s).home a) → Drifts (view s) (view t)
-quiet q s t i e = drift stay (settles q (view s) t i (λ a _ _. e a) (λ a _ o. absurd (false≢true o.2)))
+quiet : (s t : State) → Inv t → ((a : ℕ) → (view t).home a ≡ (view s).home a) → Drifts (view s) (view t)
+quiet s t i e = drift stay (settles (view s) t i (λ a _ _. e a) (λ a _ o. absurd (false≢true o.2)))
 
 -- A row that changed and kept its line, by a load or an evict.
 sound_kept : (s : State) (l : ℕ) (r : LineRow) → (i : Inv s) → Whole (i.sound l).line r → Sound r
 sound_kept s l r i w = record { line = (i.sound l).line; long = (i.sound l).long; bytes = (i.sound l).bytes; whole = w }
 
-quiet_row : Facts → (s : State) (l : ℕ) (r : LineRow) → l < 8 → (i : Inv s) → Whole (i.sound l).line r → Drifts (view s) (view (slice_set s l r))
-quiet_row q s l r lt i w =
-    quiet q s (slice_set s l r) (inv_set s l r lt i (sound_kept s l r i w)) (home_kept s l r lt i (w.home ∙ sym (i.sound l).whole.home))
+quiet_row : (s : State) (l : ℕ) (r : LineRow) → l < 8 → (i : Inv s) → Whole (i.sound l).line r → Drifts (view s) (view (slice_set s l r))
+quiet_row s l r lt i w =
+    quiet s (slice_set s l r) (inv_set s l r lt i (sound_kept s l r i w)) (home_kept s l r lt i (w.home ∙ sym (i.sound l).whole.home))
 
 -- The moment of a store: its core owes the byte and sees it.
 abbrev there : ℕ → ℕ → ℕ → ℕ → Bool
@@ -130,7 +122,7 @@ lands s c a b =
     }
 
 -- A store of byte b by core c at address a, in line l.
-module _ (q : Facts) (s : State) (i : Inv s) (c a b : ℕ) (core : c < 8) (address : a < 64) (byte : b < 256) where
+module _ (s : State) (i : Inv s) (c a b : ℕ) (core : c < 8) (address : a < 64) (byte : b < 256) where
   abbrev l : ℕ
   l = line_of a
 
@@ -147,7 +139,7 @@ module _ (q : Facts) (s : State) (i : Inv s) (c a b : ℕ) (core : c < 8) (addre
   in_range = omega arith
 
   changed : Whole (slice_set line (offset_of a) b) row
-  changed = stored_whole q.rows line (row_at s l) c (offset_of a) b core (i.sound l).whole
+  changed = stored_whole line (row_at s l) c (offset_of a) b core (i.sound l).whole
 
   inv_stored : Inv after
   inv_stored =
@@ -179,7 +171,7 @@ module _ (q : Facts) (s : State) (i : Inv s) (c a b : ℕ) (core : c < 8) (addre
   -- From the store's moment on the byte goes home at once, and everybody sees it.
   comes_home : Drift (landed (view s) c a b) (view after)
   comes_home =
-      settles q (landed (view s) c a b) after inv_stored
+      settles (landed (view s) c a b) after inv_stored
       (λ e _ none. home_old e (λ same. both_ways (there c a c e) (none c core) (subst (λ (x : ℕ). there c a c x ≡ true) (sym same) (is_there c a))))
       (λ e _ o. (o.0, o.1, o.2, ap (view after).home (eqb-true e a (and_parts (o.0 == c) (e == a) o.2).1) ∙ home_new ∙ sym (cond-true (there c a o.0 e) b ((view s).sees o.0 e) o.2)))
 
@@ -198,38 +190,38 @@ within n x e o h = by (nat_le n x) refl h
 ends : (k : Step) (e : Ended) (s t : State) → call_of e ≡ k → Brings e (view s) (view t) → Ends k e (moment s) (moment t)
 ends k e s t same brings = record { same = same; brings = brings; waiting = λ _ _. refl; paid = omega arith }
 
-steps : Facts → (s : State) (k : Step) → Inv s → Fit k → refused_in (moment s) k ≡ None → Kept moment Inv s k (act s k).0 (act s k).1
-steps q s (Load c a) i f h =
+steps : (s : State) (k : Step) → Inv s → Fit k → refused_in (moment s) k ≡ None → Kept moment Inv s k (act s k).0 (act s k).1
+steps s (Load c a) i f h =
     let lt : line_of a < 8 = omega (arith, (within 64 a _ _ (within 8 c _ _ h).1).0) in
     let r = loaded (row_of_address s a) c in
-    let w = loaded_whole q.rows (i.sound (line_of a)).line (row_of_address s a) c (i.sound (line_of a)).whole in
+    let w = loaded_whole (i.sound (line_of a)).line (row_of_address s a) c (i.sound (line_of a)).whole in
     let t = inv_set s (line_of a) r lt i (sound_kept s (line_of a) r i w) in
     record {
       again = t;
       accepted = ends (Load c a) (Loaded c a (load_answers s c a)) s (load_leaves s c a) refl
-          (quiet_row q s (line_of a) r lt i w, ap (λ (x : LineRow). seen_at x c (offset_of a)) (sym (row_same s (line_of a) r lt i)) ∙ sees_home (load_leaves s c a) t c a ∙ sym (q.sees (load_leaves s c a) t c a));
+          (quiet_row s (line_of a) r lt i w, ap (λ (x : LineRow). seen_at x c (offset_of a)) (sym (row_same s (line_of a) r lt i)));
       reach = refl;
     }
-steps q s (Store c a b) i f h =
+steps s (Store c a b) i f h =
     let core : c < 8 = (within 8 c _ _ h).0 in
     let address : a < 64 = (within 64 a _ _ (within 8 c _ _ h).1).0 in
     record {
-      again = inv_stored q s i c a b core address f.2;
-      accepted = ends (Store c a b) (Stored c a b) s (store_leaves s c a b) refl (store_brings q s i c a b core address f.2);
+      again = inv_stored s i c a b core address f.2;
+      accepted = ends (Store c a b) (Stored c a b) s (store_leaves s c a b) refl (store_brings s i c a b core address f.2);
       reach = refl;
     }
-steps q s (Acquire c) i f h = record { again = i; accepted = ends (Acquire c) (Acquired c) s s refl (stay, λ a _ _. q.sees s i c a); reach = refl }
-steps q s (Release c) i f h = record { again = i; accepted = ends (Release c) (Released c) s s refl (stay, λ a _. refl); reach = refl }
-steps q s (Evict c l) i f h =
+steps s (Acquire c) i f h = record { again = i; accepted = ends (Acquire c) (Acquired c) s s refl (stay, λ a _ _. sees_home s i c a); reach = refl }
+steps s (Release c) i f h = record { again = i; accepted = ends (Release c) (Released c) s s refl (stay, λ a _. refl); reach = refl }
+steps s (Evict c l) i f h =
     let lt : l < 8 = (within 8 l _ _ (within 8 c _ _ h).1).0 in
     let r = evicted (row_at s l) c in
     let w = evicted_whole (i.sound l).line (row_at s l) c (i.sound l).whole in
     record {
       again = inv_set s l r lt i (sound_kept s l r i w);
-      accepted = ends (Evict c l) (Evicted c l) s (evict_leaves s c l) refl (quiet_row q s l r lt i w);
+      accepted = ends (Evict c l) (Evicted c l) s (evict_leaves s c l) refl (quiet_row s l r lt i w);
       reach = refl;
     }
-steps q s (Move p) i f h = absurd (let z : ◌≡◌ {A = ℕ} 0 1 = cc in omega arith)
+steps s (Move p) i f h = absurd (let z : ◌≡◌ {A = ℕ} 0 1 = cc in omega arith)
 
 -- The cleared state.
 cleared_sound : Sound cleared_row
@@ -256,22 +248,22 @@ home_byte s i a =
     let h = i.sound (line_of a) in
     subst (λ (x : List ℕ). slice_index x (offset_of a) < 256) (sym h.whole.home) (all_at (λ b. b < 256) h.line (offset_of a) 0 (omega arith) h.bytes)
 
-pub keeps : Facts → Meaning mesi_machine
-keeps q =
+pub keeps : Meaning mesi_machine
+keeps =
     keeps_meaning
     (record {
       starts = starts;
       clear =
           record {
-            sees_zero = λ c a _ _. q.sees start starts c a ∙ home_starts a;
+            sees_zero = λ c a _ _. sees_home start starts c a ∙ home_starts a;
             home_zero = λ a _. home_starts a;
             no_debt = λ _ _ _ _. refl;
             no_wait = λ _ _. refl;
             none_open = λ _ _. refl;
-            due_zero = q.due;
+            due_zero = refl;
           };
-      step = steps q;
+      step = steps;
       idle = λ _ _ _ _ _. refl;
-      bytes = λ s i. record { seen = λ c a _ _. subst (λ (x : ℕ). x < 256) (sym (q.sees s i c a)) (home_byte s i a); at_home = λ a _. home_byte s i a };
+      bytes = λ s i. record { seen = λ c a _ _. subst (λ (x : ℕ). x < 256) (sym (sees_home s i c a)) (home_byte s i a); at_home = λ a _. home_byte s i a };
       next_is = λ _ _ _ _ _ _. refl;
     })

@@ -3,10 +3,10 @@ use Rattle.std.specs.Prelude.{◌≡◌, ℕ, zero, suc, ◌<◌, Bool, true, fa
 use Rattle.std.proofs.Common.{sym, ap, subst, ◌∙◌, arith}
 use Rattle.std.specs.List.{AllByRecursion, list_any}
 use Rattle.std.proofs.ByRecursion.{All-set, All-map, All-weaker}
-use Rattle.mesi.specs.declared.copies.PrivateLine.{PrivateLine}
-use Rattle.mesi.specs.declared.copies.PrivateLine.TheVariants.{Invalid, Shared, Exclusive, Modified}
-use Rattle.mesi.specs.Copies.{holds, downgraded, held_or, fetched, modified_or}
-use Rattle.mesi.specs.Rows.{LineRow, Call, Load, Store, Evict, copy_at, home_line, seen_line, flushed, taken, transaction, transacted, finished, loaded, stored, evicted}
+use Rattle.mesi_rules.specs.declared.copies.PrivateLine.{PrivateLine}
+use Rattle.mesi_rules.specs.declared.copies.PrivateLine.TheVariants.{Invalid, Shared, Exclusive, Modified}
+use Rattle.mesi_rules.specs.Copies.{holds, downgraded, held_or, fetched, modified_or}
+use Rattle.mesi_rules.specs.Rows.{LineRow, Call, Load, Store, Evict, copy_at, home_line, seen_line, flushed, taken, transaction, transacted, finished, loaded, stored, evicted}
 
 -- What holds of the default and of each element holds of each place.
 pub all_at : {X : Type 0} (P : X → Type 0) (xs : List X) (i : ℕ) (d : X) → P d → AllByRecursion P xs → P (slice_index_or xs i d)
@@ -67,42 +67,34 @@ fetched_is : (line l : List ℕ) (held : Bool) → l ≡ line → CopyOf line (f
 fetched_is line l true e = e
 fetched_is line l false e = e
 
--- The two facts of the rules by which a row changes its bytes. The protocol gives them where it gives its law, so that a rule of which they
--- do not hold is refused there.
-pub record RowFacts : Type 0 where
-  -- a core that takes the line has it, and the others keep it
-  pub take : (line : List ℕ) (r : LineRow) (c : ℕ) → Whole line r → Whole line (taken (flushed r) c)
-  -- after a store the one copy is the written line
-  pub finish : (line : List ℕ) (r : LineRow) (c : ℕ) → c < 8 → Whole line (finished r c line)
-
--- They hold where what is taken is home, and where a store leaves M.
-pub fetched_whole : (line : List ℕ) (r : LineRow) (c : ℕ) → Whole line r → Whole line (taken (record { copies = r.copies; llc = home_line r }) c)
+-- A core that takes the line has it, and the others keep it, where what is taken is home.
+pub fetched_whole : (line : List ℕ) (r : LineRow) (c : ℕ) → Whole line r → Whole line (taken (flushed r) c)
 fetched_whole line r c h =
-    let same : AllByRecursion (CopyOf line) (taken (record { copies = r.copies; llc = home_line r }) c).copies =
+    let same : AllByRecursion (CopyOf line) (taken (flushed r) c).copies =
     All-set (CopyOf line) (map downgraded r.copies) c (fetched (list_any holds r.copies) (home_line r))
     (fetched_is line (home_line r) (list_any holds r.copies) h.home)
     (All-map (CopyOf line) downgraded r.copies (All-weaker (CopyOf line) (λ x. CopyOf line (downgraded x)) (downgraded_is line) r.copies h.same)) in
     record {
-      home = in_llc line (home_line r) (taken (record { copies = r.copies; llc = home_line r }) c).copies h.home same;
+      home = in_llc line (home_line r) (taken (flushed r) c).copies h.home same;
       same = same;
     }
 
 -- What goes over the bus leaves the line as it is.
-transacted_by : RowFacts → (line : List ℕ) (x : PrivateLine) (k : Call) (r : LineRow) (c : ℕ) → CopyOf line x → Whole line r → Whole line (transaction x k r c)
-transacted_by q line Invalid Load r c e h = q.take line r c h
-transacted_by q line Invalid Store r c e h = q.take line r c h
-transacted_by q line Invalid Evict r c e h = h
-transacted_by q line (Shared d) k r c e h = h
-transacted_by q line (Exclusive d) k r c e h = h
-transacted_by q line (Modified d) Load r c e h = h
-transacted_by q line (Modified d) Store r c e h = h
-transacted_by q line (Modified d) Evict r c e h = record { home = in_llc line d r.copies e h.same; same = h.same }
+transacted_by : (line : List ℕ) (x : PrivateLine) (k : Call) (r : LineRow) (c : ℕ) → CopyOf line x → Whole line r → Whole line (transaction x k r c)
+transacted_by line Invalid Load r c e h = fetched_whole line r c h
+transacted_by line Invalid Store r c e h = fetched_whole line r c h
+transacted_by line Invalid Evict r c e h = h
+transacted_by line (Shared d) k r c e h = h
+transacted_by line (Exclusive d) k r c e h = h
+transacted_by line (Modified d) Load r c e h = h
+transacted_by line (Modified d) Store r c e h = h
+transacted_by line (Modified d) Evict r c e h = record { home = in_llc line d r.copies e h.same; same = h.same }
 
-transacted_whole : RowFacts → (line : List ℕ) (r : LineRow) (c : ℕ) (k : Call) → Whole line r → Whole line (transacted r c k)
-transacted_whole q line r c k h = transacted_by q line (copy_at r c) k r c (own_copy line r c h) h
+transacted_whole : (line : List ℕ) (r : LineRow) (c : ℕ) (k : Call) → Whole line r → Whole line (transacted r c k)
+transacted_whole line r c k h = transacted_by line (copy_at r c) k r c (own_copy line r c h) h
 
-pub loaded_whole : RowFacts → (line : List ℕ) (r : LineRow) (c : ℕ) → Whole line r → Whole line (loaded r c)
-loaded_whole q line r c h = transacted_whole q line r c Load h
+pub loaded_whole : (line : List ℕ) (r : LineRow) (c : ℕ) → Whole line r → Whole line (loaded r c)
+loaded_whole line r c h = transacted_whole line r c Load h
 
 -- The one M copy is at home.
 modified_set : (llc line : List ℕ) (n c : ℕ) → c < n → modified_or llc (slice_set (replicate n Invalid) c (Modified line)) ≡ line
@@ -110,17 +102,18 @@ modified_set llc line zero c h = absurd (omega arith)
 modified_set llc line (suc n) zero h = refl
 modified_set llc line (suc n) (suc c) h = modified_set llc line n c (omega arith)
 
-pub finished_whole : (line : List ℕ) (r : LineRow) (c : ℕ) → c < 8 → Whole line (record { copies = slice_set (replicate 8 Invalid) c (Modified line); llc = r.llc })
+-- After a store the one copy is the written line.
+pub finished_whole : (line : List ℕ) (r : LineRow) (c : ℕ) → c < 8 → Whole line (finished r c line)
 finished_whole line r c h =
     record {
       home = modified_set r.llc line 8 c h;
       same = All-set (CopyOf line) (replicate 8 Invalid) c (Modified line) refl (all_replicate (CopyOf line) 8 Invalid tt);
     }
 
-pub stored_whole : RowFacts → (line : List ℕ) (r : LineRow) (c o b : ℕ) → c < 8 → Whole line r → Whole (slice_set line o b) (stored r c o b)
-stored_whole q line r c o b lt h =
-    let seen : seen_line (transacted r c Store) c ≡ line = seen_whole line (transacted r c Store) c (transacted_whole q line r c Store h) in
-    subst (λ (l : List ℕ). Whole (slice_set line o b) (finished (transacted r c Store) c (slice_set l o b))) (sym seen) (q.finish (slice_set line o b) (transacted r c Store) c lt)
+pub stored_whole : (line : List ℕ) (r : LineRow) (c o b : ℕ) → c < 8 → Whole line r → Whole (slice_set line o b) (stored r c o b)
+stored_whole line r c o b lt h =
+    let seen : seen_line (transacted r c Store) c ≡ line = seen_whole line (transacted r c Store) c (transacted_whole line r c Store h) in
+    subst (λ (l : List ℕ). Whole (slice_set line o b) (finished (transacted r c Store) c (slice_set l o b))) (sym seen) (finished_whole (slice_set line o b) (transacted r c Store) c lt)
 
 -- The LLC's line after the evict of a copy.
 abbrev left_llc : List ℕ → PrivateLine → List ℕ

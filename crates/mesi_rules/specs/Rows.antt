@@ -1,9 +1,9 @@
 -- The rules of the bus for one line, state by event.
 use Rattle.std.specs.Prelude.{ℕ, List, map, replicate, slice_index, slice_index_or, slice_set}
 use Rattle.std.specs.List.{list_any}
-use Rattle.mesi.specs.declared.copies.PrivateLine.{PrivateLine}
-use Rattle.mesi.specs.declared.copies.PrivateLine.TheVariants.{Invalid, Shared, Exclusive, Modified}
-use Rattle.mesi.specs.Copies.{holds, downgraded, held_or, fetched, modified_or}
+use Rattle.mesi_rules.specs.declared.copies.PrivateLine.{PrivateLine}
+use Rattle.mesi_rules.specs.declared.copies.PrivateLine.TheVariants.{Invalid, Shared, Exclusive, Modified}
+use Rattle.mesi_rules.specs.Copies.{holds, downgraded, held_or, fetched, modified_or}
 
 -- A line's row: its copies by core, and the LLC's line.
 pub record LineRow : Type 0 where

@@ -1,10 +1,8 @@
 -- Bus MESI as a machine: its steps, what it has at each moment, and its answers.
-use Rattle.std.specs.Prelude.{ℕ, false, List, replicate, None, Ok, Err, Option, Result, slice_index_or, slice_set}
+use Rattle.std.specs.Prelude.{ℕ, false, List, replicate, None, Option, slice_index_or, slice_set}
 use Rattle.protocol.specs.declared.steps.Step.{Step}
 use Rattle.protocol.specs.declared.steps.Step.TheVariants.{Load, Store, Acquire, Release, Evict, Move}
-use Rattle.protocol.specs.declared.steps.Ended.{Ended}
 use Rattle.protocol.specs.declared.steps.Ended.TheVariants.{Loaded, Stored, Acquired, Released, Evicted}
-use Rattle.protocol.specs.declared.steps.Refusal.{Refusal}
 use Rattle.protocol.specs.declared.steps.Refusal.TheVariants.{PlaceNotOpen}
 use Rattle.protocol.specs.declared.steps.Reply.{Reply}
 use Rattle.protocol.specs.declared.steps.Reply.TheVariants.{Refused, Ended as AtOnce}
@@ -12,7 +10,7 @@ use Rattle.protocol.specs.Cells.{line_of, offset_of}
 use Rattle.protocol.specs.Moment.{Moment}
 use Rattle.protocol.specs.Meaning.{Machine}
 use Rattle.protocol.specs.Rules.{by_rules}
-use Rattle.mesi.specs.Rows.{LineRow, cleared_row, home_at, seen_at, loaded, stored, evicted}
+use Rattle.mesi_rules.specs.Rows.{LineRow, cleared_row, home_at, seen_at, loaded, stored, evicted}
 
 -- A row for each line.
 abbrev pub State : Type 0
@@ -62,11 +60,6 @@ act s (Acquire c) = (AtOnce (Acquired c), s)
 act s (Release c) = (AtOnce (Released c), s)
 act s (Evict c l) = (AtOnce (Evicted c l), evict_leaves s c l)
 act s (Move p) = (Refused PlaceNotOpen, s)
-
--- The reply to a call that is refused, or that ends at once.
-abbrev pub replied : Result Ended Refusal → Reply
-replied (Ok e) = AtOnce e
-replied (Err e) = Refused e
 
 -- Nobody owes, no core waits, no place is open, and due and reach are 0.
 abbrev pub moment : State → Moment

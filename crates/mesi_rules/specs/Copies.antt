@@ -1,8 +1,8 @@
 -- The copies of one line at the eight cores.
-use Rattle.std.specs.Prelude.{ℕ, Bool, true, false, not, List, [], ◌∷◌, Some, None, Option, slice_set}
+use Rattle.std.specs.Prelude.{ℕ, Bool, true, false, not, List, [], ◌∷◌, Some, None, Option, unwrap_or, slice_set}
 use Rattle.std.specs.List.{list_any}
-use Rattle.mesi.specs.declared.copies.PrivateLine.{PrivateLine}
-use Rattle.mesi.specs.declared.copies.PrivateLine.TheVariants.{Invalid, Shared, Exclusive, Modified}
+use Rattle.mesi_rules.specs.declared.copies.PrivateLine.{PrivateLine}
+use Rattle.mesi_rules.specs.declared.copies.PrivateLine.TheVariants.{Invalid, Shared, Exclusive, Modified}
 
 -- A core holds a line in S, E or M.
 abbrev pub holds : PrivateLine → Bool
@@ -39,19 +39,16 @@ downgraded (Shared d) = Shared d
 downgraded (Exclusive d) = Shared d
 downgraded (Modified d) = Shared d
 
--- The line of a copy, or the given line for a core that holds none.
-abbrev pub held_or : List ℕ → PrivateLine → List ℕ
-held_or line Invalid = line
-held_or line (Shared d) = d
-held_or line (Exclusive d) = d
-held_or line (Modified d) = d
-
 -- The line of a copy, for a core that holds it.
 abbrev pub held_line : PrivateLine → Option (List ℕ)
 held_line Invalid = None
 held_line (Shared d) = Some d
 held_line (Exclusive d) = Some d
 held_line (Modified d) = Some d
+
+-- The line of a copy, or the given line for a core that holds none.
+abbrev pub held_or : List ℕ → PrivateLine → List ℕ
+held_or line x = unwrap_or (held_line x) line
 
 -- The line of an M copy.
 abbrev pub modified_line : PrivateLine → Option (List ℕ)
@@ -68,10 +65,7 @@ fetched false line = Exclusive line
 -- The line of an M copy, or the given line where there is none.
 abbrev pub modified_or : List ℕ → List PrivateLine → List ℕ
 modified_or line [] = line
-modified_or line (Invalid ∷ xs) = modified_or line xs
-modified_or line (Shared d ∷ xs) = modified_or line xs
-modified_or line (Exclusive d ∷ xs) = modified_or line xs
-modified_or line (Modified d ∷ xs) = d
+modified_or line (x ∷ xs) = unwrap_or (modified_line x) (modified_or line xs)
 
 -- Never M or E at one core and anything but I at another: beside S no core owns the line, beside E or M no core holds it.
 abbrev pub owner_alone : List PrivateLine → Bool

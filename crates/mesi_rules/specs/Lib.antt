@@ -1,0 +1,3 @@
+pub mod Bus
+pub mod Copies
+pub mod Rows
