@@ -1,9 +1,9 @@
 -- The rules keep the meaning: every core always sees home, a store changes home at one address, and nothing else does.
 use Rattle.std.specs.Prelude.{◌≡◌, ℕ, ◌<◌, Bool, true, false, cond, ◌&&◌, ◌≢◌, List, length, replicate, Some, None, Option, ◌==◌, nat_le, slice_index, slice_set, refl}
 use Rattle.std.proofs.Common.{sym, ap, subst, ◌∙◌, inr, ⊎_elim, arith}
-use Rattle.std.specs.List.{AllByRecursion}
+use Rattle.std.specs.List.{All}
 use Rattle.std.proofs.lemmas.List.{length-set, get_or-set_same, get_or-set_other}
-use Rattle.std.proofs.ByRecursion.{All-set}
+use Rattle.std.proofs.lemmas.List.Elements.{All-set, All-replicate}
 use Rattle.std.proofs.lemmas.Bool.{false≢true, leb-false, eqb-true, eq-eqb, cases_eq, cases_Bool, and_parts, and_from, cond-true, cond-false, both_ways}
 use Rattle.protocol.specs.declared.steps.Step.{Step}
 use Rattle.protocol.specs.declared.steps.Step.TheVariants.{Load, Store, Acquire, Release, Evict, Move}
@@ -18,13 +18,13 @@ use Rattle.protocol.proofs.ByRules.{Kept, keeps_meaning}
 use Rattle.mesi_rules.specs.declared.copies.PrivateLine.TheVariants.{Invalid}
 use Rattle.mesi_rules.specs.Rows.{LineRow, cleared_row, home_line, home_at, seen_at, loaded, stored, evicted}
 use Rattle.mesi_rules.specs.Bus.{State, start, row_at, row_of_address, load_leaves, load_answers, store_leaves, evict_leaves, act, moment, mesi_machine}
-use Rattle.mesi_rules.proofs.Whole.{all_at, all_replicate, CopyOf, Whole, seen_whole, loaded_whole, stored_whole, evicted_whole}
+use Rattle.mesi_rules.proofs.Whole.{all_at, CopyOf, Whole, seen_whole, loaded_whole, stored_whole, evicted_whole}
 
 -- A row has one line of eight bytes: it is at home, and every copy is that line.
 record Sound (r : LineRow) : Type 0 where
   line : List ℕ
   long : length line ≡ 8
-  bytes : AllByRecursion (λ b. b < 256) line
+  bytes : All (λ b. b < 256) line
   whole : Whole line r
 
 -- What holds of every state that is reached.
@@ -229,19 +229,19 @@ cleared_sound =
     record {
       line = replicate 8 0;
       long = refl;
-      bytes = all_replicate (λ b. b < 256) 8 0 (omega arith);
-      whole = record { home = refl; same = all_replicate (CopyOf (replicate 8 0)) 8 Invalid tt };
+      bytes = All-replicate (λ b. b < 256) 8 0 (omega arith);
+      whole = record { home = refl; same = All-replicate (CopyOf (replicate 8 0)) 8 Invalid tt };
     }
 
 starts : Inv start
-starts = record { lines = refl; sound = λ l. all_at Sound start l cleared_row cleared_sound (all_replicate Sound 8 cleared_row cleared_sound) }
+starts = record { lines = refl; sound = λ l. all_at Sound start l cleared_row cleared_sound (All-replicate Sound 8 cleared_row cleared_sound) }
 
 home_starts : (a : ℕ) → (view start).home a ≡ 0
 home_starts a =
-    all_at (λ r. home_at r (offset_of a) ≡ 0) start (line_of a) cleared_row zero_row (all_replicate (λ r. home_at r (offset_of a) ≡ 0) 8 cleared_row zero_row)
+    all_at (λ r. home_at r (offset_of a) ≡ 0) start (line_of a) cleared_row zero_row (All-replicate (λ r. home_at r (offset_of a) ≡ 0) 8 cleared_row zero_row)
   where
     zero_row : home_at cleared_row (offset_of a) ≡ 0
-    zero_row = all_at (λ b. b ≡ 0) (replicate 8 0) (offset_of a) 0 refl (all_replicate (λ b. b ≡ 0) 8 0 refl)
+    zero_row = all_at (λ b. b ≡ 0) (replicate 8 0) (offset_of a) 0 refl (All-replicate (λ b. b ≡ 0) 8 0 refl)
 
 home_byte : (s : State) → Inv s → (a : ℕ) → (view s).home a < 256
 home_byte s i a =

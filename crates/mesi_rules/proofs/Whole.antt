@@ -1,23 +1,19 @@
 -- A row whose copies all have one line: what the bus does keeps them so, and a store changes that line at one offset.
 use Rattle.std.specs.Prelude.{◌≡◌, ℕ, zero, suc, ◌<◌, Bool, true, false, List, [], ◌∷◌, map, replicate, slice_index_or, slice_set, refl}
 use Rattle.std.proofs.Common.{sym, ap, subst, ◌∙◌, arith}
-use Rattle.std.specs.List.{AllByRecursion, list_any}
-use Rattle.std.proofs.ByRecursion.{All-set, All-map, All-weaker}
+use Rattle.std.specs.List.{All, list_any}
+use Rattle.std.specs.Option.{unwrap_or}
+use Rattle.std.proofs.lemmas.List.Elements.{All-head, All-tail, All-set, All-map, All-weaker, All-replicate}
 use Rattle.mesi_rules.specs.declared.copies.PrivateLine.{PrivateLine}
 use Rattle.mesi_rules.specs.declared.copies.PrivateLine.TheVariants.{Invalid, Shared, Exclusive, Modified}
-use Rattle.mesi_rules.specs.Copies.{holds, downgraded, held_or, fetched, modified_or}
+use Rattle.mesi_rules.specs.Copies.{holds, downgraded, held_or, fetched, modified_line, modified_or}
 use Rattle.mesi_rules.specs.Rows.{LineRow, Call, Load, Store, Evict, copy_at, home_line, seen_line, flushed, taken, transaction, transacted, finished, loaded, stored, evicted}
 
 -- What holds of the default and of each element holds of each place.
-pub all_at : {X : Type 0} (P : X → Type 0) (xs : List X) (i : ℕ) (d : X) → P d → AllByRecursion P xs → P (slice_index_or xs i d)
+pub all_at : {X : Type 0} (P : X → Type 0) (xs : List X) (i : ℕ) (d : X) → P d → All P xs → P (slice_index_or xs i d)
 all_at P [] i d p h = p
-all_at P (x ∷ xs) zero d p h = h.0
-all_at P (x ∷ xs) (suc i) d p h = all_at P xs i d p h.1
-
--- What holds of one value holds of each of its repetitions.
-pub all_replicate : {X : Type 0} (P : X → Type 0) (n : ℕ) (x : X) → P x → AllByRecursion P (replicate n x)
-all_replicate P zero x p = tt
-all_replicate P (suc n) x p = (p, all_replicate P n x p)
+all_at P (x ∷ xs) zero d p h = All-head P x xs h
+all_at P (x ∷ xs) (suc i) d p h = all_at P xs i d p (All-tail P x xs h)
 
 -- A copy is the line, or there is none.
 abbrev pub CopyOf : List ℕ → PrivateLine → Type 0
@@ -29,7 +25,7 @@ CopyOf line (Modified d) = d ≡ line
 -- The line is at home, and every copy is that line.
 pub record Whole (line : List ℕ) (r : LineRow) : Type 0 where
   pub home : home_line r ≡ line
-  pub same : AllByRecursion (CopyOf line) r.copies
+  pub same : All (CopyOf line) r.copies
 
 -- Each core's copy is the line.
 own_copy : (line : List ℕ) (r : LineRow) (c : ℕ) → Whole line r → CopyOf line (copy_at r c)
@@ -47,14 +43,18 @@ seen_whole line r c h =
     ap (λ (l : List ℕ). held_or l (copy_at r c)) h.home ∙ held_is line (copy_at r c) (own_copy line r c h)
 
 -- With the line in the LLC too, it is at home.
-modified_same : (line : List ℕ) (xs : List PrivateLine) → AllByRecursion (CopyOf line) xs → modified_or line xs ≡ line
-modified_same line [] h = refl
-modified_same line (Invalid ∷ xs) h = modified_same line xs h.1
-modified_same line (Shared d ∷ xs) h = modified_same line xs h.1
-modified_same line (Exclusive d ∷ xs) h = modified_same line xs h.1
-modified_same line (Modified d ∷ xs) h = h.0
+modified_is : (line : List ℕ) (x : PrivateLine) → CopyOf line x → unwrap_or (modified_line x) line ≡ line
+modified_is line Invalid h = refl
+modified_is line (Shared d) h = refl
+modified_is line (Exclusive d) h = refl
+modified_is line (Modified d) h = h
 
-in_llc : (line l : List ℕ) (xs : List PrivateLine) → l ≡ line → AllByRecursion (CopyOf line) xs → modified_or l xs ≡ line
+modified_same : (line : List ℕ) (xs : List PrivateLine) → All (CopyOf line) xs → modified_or line xs ≡ line
+modified_same line [] h = refl
+modified_same line (x ∷ xs) h =
+    ap (unwrap_or (modified_line x)) (modified_same line xs (All-tail (CopyOf line) x xs h)) ∙ modified_is line x (All-head (CopyOf line) x xs h)
+
+in_llc : (line l : List ℕ) (xs : List PrivateLine) → l ≡ line → All (CopyOf line) xs → modified_or l xs ≡ line
 in_llc line l xs e h = ap (λ (m : List ℕ). modified_or m xs) e ∙ modified_same line xs h
 
 downgraded_is : (line : List ℕ) (x : PrivateLine) → CopyOf line x → CopyOf line (downgraded x)
@@ -70,7 +70,7 @@ fetched_is line l false e = e
 -- A core that takes the line has it, and the others keep it, where what is taken is home.
 pub fetched_whole : (line : List ℕ) (r : LineRow) (c : ℕ) → Whole line r → Whole line (taken (flushed r) c)
 fetched_whole line r c h =
-    let same : AllByRecursion (CopyOf line) (taken (flushed r) c).copies =
+    let same : All (CopyOf line) (taken (flushed r) c).copies =
     All-set (CopyOf line) (map downgraded r.copies) c (fetched (list_any holds r.copies) (home_line r))
     (fetched_is line (home_line r) (list_any holds r.copies) h.home)
     (All-map (CopyOf line) downgraded r.copies (All-weaker (CopyOf line) (λ x. CopyOf line (downgraded x)) (downgraded_is line) r.copies h.same)) in
@@ -107,7 +107,7 @@ pub finished_whole : (line : List ℕ) (r : LineRow) (c : ℕ) → c < 8 → Who
 finished_whole line r c h =
     record {
       home = modified_set r.llc line 8 c h;
-      same = All-set (CopyOf line) (replicate 8 Invalid) c (Modified line) refl (all_replicate (CopyOf line) 8 Invalid tt);
+      same = All-set (CopyOf line) (replicate 8 Invalid) c (Modified line) refl (All-replicate (CopyOf line) 8 Invalid tt);
     }
 
 pub stored_whole : (line : List ℕ) (r : LineRow) (c o b : ℕ) → c < 8 → Whole line r → Whole (slice_set line o b) (stored r c o b)
@@ -115,26 +115,19 @@ stored_whole line r c o b lt h =
     let seen : seen_line (transacted r c Store) c ≡ line = seen_whole line (transacted r c Store) c (transacted_whole line r c Store h) in
     subst (λ (l : List ℕ). Whole (slice_set line o b) (finished (transacted r c Store) c (slice_set l o b))) (sym seen) (finished_whole (slice_set line o b) (transacted r c Store) c lt)
 
--- The LLC's line after the evict of a copy.
-abbrev left_llc : List ℕ → PrivateLine → List ℕ
-left_llc llc Invalid = llc
-left_llc llc (Shared d) = llc
-left_llc llc (Exclusive d) = llc
-left_llc llc (Modified d) = d
-
 -- A copy that leaves is in the LLC, if it was the one at home.
-modified_left : (line llc : List ℕ) (xs : List PrivateLine) (c : ℕ) → AllByRecursion (CopyOf line) xs → modified_or llc xs ≡ line → modified_or (left_llc llc (slice_index_or xs c Invalid)) (slice_set xs c Invalid) ≡ line
+modified_left : (line llc : List ℕ) (xs : List PrivateLine) (c : ℕ) → All (CopyOf line) xs → modified_or llc xs ≡ line → modified_or (unwrap_or (modified_line (slice_index_or xs c Invalid)) llc) (slice_set xs c Invalid) ≡ line
 modified_left line llc [] c h e = e
 modified_left line llc (Invalid ∷ xs) zero h e = e
 modified_left line llc (Shared d ∷ xs) zero h e = e
 modified_left line llc (Exclusive d ∷ xs) zero h e = e
-modified_left line llc (Modified d ∷ xs) zero h e = in_llc line d xs e h.1
-modified_left line llc (Invalid ∷ xs) (suc c) h e = modified_left line llc xs c h.1 e
-modified_left line llc (Shared d ∷ xs) (suc c) h e = modified_left line llc xs c h.1 e
-modified_left line llc (Exclusive d ∷ xs) (suc c) h e = modified_left line llc xs c h.1 e
+modified_left line llc (Modified d ∷ xs) zero h e = in_llc line d xs e (All-tail (CopyOf line) (Modified d) xs h)
+modified_left line llc (Invalid ∷ xs) (suc c) h e = modified_left line llc xs c (All-tail (CopyOf line) Invalid xs h) e
+modified_left line llc (Shared d ∷ xs) (suc c) h e = modified_left line llc xs c (All-tail (CopyOf line) (Shared d) xs h) e
+modified_left line llc (Exclusive d ∷ xs) (suc c) h e = modified_left line llc xs c (All-tail (CopyOf line) (Exclusive d) xs h) e
 modified_left line llc (Modified d ∷ xs) (suc c) h e = e
 
-evict_by : (x : PrivateLine) (r : LineRow) (c : ℕ) → transaction x Evict r c ≡ record { copies = r.copies; llc = left_llc r.llc x }
+evict_by : (x : PrivateLine) (r : LineRow) (c : ℕ) → transaction x Evict r c ≡ record { copies = r.copies; llc = unwrap_or (modified_line x) r.llc }
 evict_by Invalid r c = refl
 evict_by (Shared d) r c = refl
 evict_by (Exclusive d) r c = refl

@@ -7,7 +7,7 @@ ghost use Rattle.mesi_rules.specs.Copies.{holds, is_modified, written, held_line
 use protocol::Offset;
 
 /// One core's copy of a line: I, or S, E or M with the line's eight bytes.
-// The variants are the four states of the protocol's tables; with an Option of a state beside its bytes the rules would name two things for one.
+// The variants are the four states of the protocol's tables. An Option of a state beside its bytes is no plainer: it names them twice.
 #[derive(Clone, Copy)]
 pub enum PrivateLine {
     Invalid,
