@@ -23,7 +23,7 @@ module _ {A B F R C : Type 0} (v : A → B) (w : R → C) (g : Mut F (A × Unit 
     (says : (x : A) (r : Option R) → Called g f (x, tt) r f → option_map w r ≡ h (v x)) where
   -- What the call at an item says of the element.
   said : (o : Option A) (b : B) (r : Option R) → option_map v o ≡ Some b → IfSome o (λ x. Called g f (x, tt) r f) → h b ≡ option_map w r
-  said None b r e c = let z : ◌≡◌ {A = ℕ} 0 1 = cc in absurd (omega arith)
+  said None b r e c = cc
   said (Some x) b r e c = let s = says x r c in cc
 
   if_some : (o : Option A) (P : A → Type 0) → IsSomeAnd o P → IfSome o P

@@ -61,6 +61,7 @@ impl Row {
     }
 
     /// M or E becomes S, and the core takes the LLC's line: as S if another core holds it, else as E.
+    #[tactic(auto, using(crate::proofs::Alone::alone_fetched))]
     fn take(&mut self, core: Core)
         ensures { self.new ≡ taken self.old core.number }
     {
@@ -89,6 +90,7 @@ impl Row {
     }
 
     /// The core gets the line for a store. Where it has it in M already, all others have I.
+    #[tactic(auto, using(crate::proofs::Owned::own_modified))]
     fn own(&mut self, core: Core)
         ensures { self.new ≡ owned self.old core.number }
     {
@@ -118,6 +120,7 @@ impl Row {
     }
 
     /// An M line goes into the LLC. Leaves I at the core.
+    #[tactic(auto, using(crate::proofs::Alone::alone_evicted))]
     pub fn evict(&mut self, core: Core)
         ensures { self.new ≡ evicted self.old core.number }
     {

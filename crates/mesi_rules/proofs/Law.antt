@@ -183,7 +183,7 @@ within : (n x : ℕ) (e : Refusal) (o : Option Refusal) → cond (nat_le n x) (S
 within n x e o h = by (nat_le n x) refl h
   where
     by : (t : Bool) → nat_le n x ≡ t → cond t (Some e) o ≡ None → (x < n) × (o ≡ None)
-    by true p q = absurd (let z : ◌≡◌ {A = ℕ} 0 1 = cc in omega arith)
+    by true p q = absurd (cc)
     by false p q = (leb-false n x p, q)
 
 -- A call that ends at once.
@@ -221,7 +221,7 @@ steps s (Evict c l) i f h =
       accepted = ends (Evict c l) (Evicted c l) s (evict_leaves s c l) refl (quiet_row s l r lt i w);
       reach = refl;
     }
-steps s (Move p) i f h = absurd (let z : ◌≡◌ {A = ℕ} 0 1 = cc in omega arith)
+steps s (Move p) i f h = absurd (cc)
 
 -- The cleared state.
 cleared_sound : Sound cleared_row
