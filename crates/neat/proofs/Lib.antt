@@ -8,3 +8,4 @@ mod Whole
 mod Steps
 mod Opening
 mod Quiet
+mod Sent

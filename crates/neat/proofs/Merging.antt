@@ -4,7 +4,7 @@ use mathlib.Core.Path.{fun_ext}
 use Rattle.std.proofs.lemmas.List.{get_or-set_same, get_or-set_other, get_or_past}
 use Rattle.std.proofs.lemmas.Bool.{cases_eq, ltb-true, ltb-false, lt-ltb, le-ltb, cond-true, cond-false}
 use Rattle.neat_rules.specs.State.{Block, merged}
-use Rattle.neat.specs.Blocks.{as_bytes, as_block}
+use Rattle.neat.specs.Blocks.{as_bytes, block_of}
 
 -- The line d when the offsets below n are merged.
 abbrev pub merged_below : ℕ → Block → (ℕ → ℕ) → ℕ → ℕ
@@ -43,13 +43,13 @@ left_more n b d xs w h o = go (cases_eq o n)
     go (inr q) = h o ∙ others n b d o q
 
 -- Past the line there is nothing to merge.
-pub all_merged : (n : ℕ) (ys : List ℕ) (m : ℕ) (ds xs : List ℕ) → 8 ≤ n → length ys ≡ 8 → length ds ≡ 8 → ((o : ℕ) → as_bytes xs o ≡ merged_below n (as_block ys m) (as_bytes ds) o) → as_bytes xs ≡ merged (as_block ys m) (as_bytes ds)
+pub all_merged : (n : ℕ) (ys : List ℕ) (m : ℕ) (ds xs : List ℕ) → 8 ≤ n → length ys ≡ 8 → length ds ≡ 8 → ((o : ℕ) → as_bytes xs o ≡ merged_below n (block_of ys m) (as_bytes ds) o) → as_bytes xs ≡ merged (block_of ys m) (as_bytes ds)
 all_merged n ys m ds xs l p q h = fun_ext (λ o. h o ∙ go o (ltb o n) refl)
   where
     nothing : (o : ℕ) → 8 ≤ o → (t : Bool) → as_bytes ds o ≡ cond t (as_bytes ys o) (as_bytes ds o)
     nothing o g true = get_or_past ds o 0 (omega arith) ∙ sym (get_or_past ys o 0 (omega arith))
     nothing o g false = refl
 
-    go : (o : ℕ) (t : Bool) → ltb o n ≡ t → cond t (merged (as_block ys m) (as_bytes ds) o) (as_bytes ds o) ≡ merged (as_block ys m) (as_bytes ds) o
+    go : (o : ℕ) (t : Bool) → ltb o n ≡ t → cond t (merged (block_of ys m) (as_bytes ds) o) (as_bytes ds o) ≡ merged (block_of ys m) (as_bytes ds) o
     go o true e = refl
-    go o false e = nothing o (omega (arith, ltb-false o n e)) ((as_block ys m).written o)
+    go o false e = nothing o (omega (arith, ltb-false o n e)) ((block_of ys m).written o)

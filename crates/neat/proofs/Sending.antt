@@ -1,12 +1,10 @@
 -- An acquire or release sends its lines one after the other.
-use Rattle.std.proofs.Common.{◌≡◌, ℕ, zero, suc, ◌+◌, ◌*◌, ◌<◌, ◌≤◌, Bool, true, false, cond, ltb, ◌⊎◌, List, length, set, sym, refl, ap, ◌∙◌, subst, inl, inr, add-one, arith}
+use Rattle.std.proofs.Common.{◌≡◌, ℕ, zero, suc, ◌+◌, ◌*◌, ◌<◌, ◌≤◌, Bool, true, false, cond, ltb, ◌⊎◌, List, length, get_or, set, sym, refl, ap, ◌∙◌, subst, ap₂, inl, inr, add-one, arith}
 use mathlib.Core.Path.{fun_ext}
-use Rattle.std.proofs.lemmas.List.{length-set, get_or-set_same, get_or-set_other, get_or_past}
+use Rattle.std.proofs.lemmas.List.{length-set, get_or-set_same, get_or-set_other, get_or_past, get_or_default}
 use Rattle.std.proofs.lemmas.Bool.{cases_eq, ltb-true, ltb-false, lt-ltb, le-ltb, cond-true, cond-false}
 use Rattle.neat_rules.specs.State.{total, Line, I, Place, Empty, Slot}
 use Rattle.neat_rules.specs.Rules.{commits_of}
-use Rattle.neat_rules.proofs.Tables.{total_plus}
-use Rattle.neat_rules.proofs.Slots.{commits_one}
 use Rattle.neat.specs.declared.slot.Slot.{Slot as CodeSlot}
 use Rattle.neat.specs.Parts.{as_slot, as_slots, no_slot}
 
@@ -25,40 +23,26 @@ module _ (send : Line → Place → Slot) where
   pub none_sent : (vs : List CodeSlot) → Sent vs vs 0 0
   none_sent vs = record { same = refl; long = λ l. absurd (omega arith); slots = λ j. sym (cond-false (ltb j 0) (send (as_slots vs j).line (as_slots vs j).place) (as_slots vs j) (le-ltb j 0 (omega arith))); count = refl }
 
-  -- At most one Commit for each line.
-  pub sent_few : (vs us : List CodeSlot) (n m : ℕ) → Sent vs us n m → m ≤ n
-  sent_few vs us n m h = few m n (total n (λ j. commits_of (as_slots vs j).line)) (total n (λ j. 0)) h.count (total_plus n 1 (λ j. commits_of (as_slots vs j).line) (λ j. 0) (λ j l. commits_one (as_slots vs j).line)) (zeros n)
-    where
-      few : (m n t z : ℕ) → m ≡ t → t ≤ z + n * 1 → z ≡ 0 → m ≤ n
-      few m n t z a b c = omega arith
-
-      zeros : (n : ℕ) → total n (λ j. 0) ≡ 0
-      zeros zero = refl
-      zeros (suc n) = let z = zeros n in omega arith
-
   -- The slot at n is not sent yet.
   unsent : (vs us : List CodeSlot) (n m : ℕ) → Sent vs us n m → as_slots us n ≡ as_slots vs n
   unsent vs us n m h = h.slots n ∙ cond-false (ltb n n) (send (as_slots vs n).line (as_slots vs n).place) (as_slots vs n) (le-ltb n n (omega arith))
 
-  pub sent_one : (vs us : List CodeSlot) (n m : ℕ) → Sent vs us n m → commits_of (as_slots us n).line ≤ 1
-  sent_one vs us n m h = commits_one (as_slots us n).line
-
-  pub sent_more : (vs us : List CodeSlot) (n m k : ℕ) (v : CodeSlot) → Sent vs us n m → n < 8 → length us ≡ 8 → as_slot v ≡ send (as_slots us n).line (as_slots us n).place → k ≡ commits_of (as_slots us n).line → Sent vs (set us n v) (n + 1) (m + k)
-  sent_more vs us n m k v h l g e f =
+  pub sent_more : (vs us : List CodeSlot) (n m k b : ℕ) (v z : CodeSlot) → Sent vs us n m → n < 8 → length us ≡ 8 → as_slot v ≡ send (as_slot (get_or us n z)).line (as_slot (get_or us n z)).place → b ≡ commits_of (as_slot (get_or us n z)).line → k ≡ m + b → Sent vs (set us n v) (n + 1) k
+  sent_more vs us n m k b v z h l g e f q =
       record {
         same = length-set us n v ∙ h.same;
         long = λ j. sym h.same ∙ g;
         slots = λ j. go j (cases_eq j n);
-        count = subst (λ (i : ℕ). m + k ≡ total i (λ j. commits_of (as_slots vs j).line)) (sym (add-one n)) (sums m k (total n (λ j. commits_of (as_slots vs j).line)) (commits_of (as_slots vs n).line) h.count (f ∙ ap (λ (u : Slot). commits_of u.line) (unsent vs us n m h)));
+        count = subst (λ (i : ℕ). k ≡ total i (λ j. commits_of (as_slots vs j).line)) (sym (add-one n)) (q ∙ ap₂ ◌+◌ h.count (f ∙ ap (λ (u : Slot). commits_of u.line) was));
       }
     where
-      sums : (m k t c : ℕ) → m ≡ t → k ≡ c → m + k ≡ t + c
-      sums m k t c a b = omega arith
+      was : as_slot (get_or us n z) ≡ as_slots vs n
+      was = ap as_slot (get_or_default us n z no_slot (omega arith)) ∙ unsent vs us n m h
 
       go : (j : ℕ) → (j ≡ n) ⊎ (j ≡ n → ⊥) → as_slots (set us n v) j ≡ sent_below (n + 1) (as_slots vs) j
       go j (inl q) =
           subst (λ (i : ℕ). as_slots (set us n v) i ≡ sent_below (n + 1) (as_slots vs) i) (sym q)
-          (ap as_slot (get_or-set_same us n v no_slot (omega arith)) ∙ e ∙ ap (λ (u : Slot). send u.line u.place) (unsent vs us n m h) ∙ sym (cond-true (ltb n (n + 1)) (send (as_slots vs n).line (as_slots vs n).place) (as_slots vs n) (lt-ltb n (n + 1) (omega arith))))
+          (ap as_slot (get_or-set_same us n v no_slot (omega arith)) ∙ e ∙ ap (λ (u : Slot). send u.line u.place) was ∙ sym (cond-true (ltb n (n + 1)) (send (as_slots vs n).line (as_slots vs n).place) (as_slots vs n) (lt-ltb n (n + 1) (omega arith))))
       go j (inr q) = ap as_slot (get_or-set_other us n j v no_slot q) ∙ h.slots j ∙ other (ltb j n) refl
         where
           other : (t : Bool) → ltb j n ≡ t → cond t (send (as_slots vs j).line (as_slots vs j).place) (as_slots vs j) ≡ sent_below (n + 1) (as_slots vs) j

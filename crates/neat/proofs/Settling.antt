@@ -1,25 +1,54 @@
--- Whether a Put or PutAck is left, line by line.
-use Rattle.std.proofs.Common.{◌≡◌, ℕ, ◌+◌, ◌<◌, ◌≤◌, true, false, ◌&&◌, eqb, sym, ap, ◌∙◌, subst, add-one, arith}
-use Rattle.std.proofs.lemmas.Bool.{eq-eqb, ne_eqb}
-use Rattle.neat_rules.specs.State.{total, Closing, Shut, Slot, Core}
+-- Whether a slot of a core passes a test, and whether a Put or PutAck is left.
+use Rattle.std.proofs.Common.{◌≡◌, ℕ, zero, suc, ◌+◌, ◌<◌, ◌≤◌, Bool, true, false, not, if◌then◌else◌, ◌||◌, ◌&&◌, eqb, List, length, get_or, take, sym, refl, ap, ◌∙◌, add-zero, add-one, arith}
+use Rattle.std.proofs.Math.Bool.{or-false, or-true}
+use Rattle.std.specs.List.{list_any}
+use Rattle.std.proofs.lemmas.Bool.{ne_eqb}
+use Rattle.std.proofs.lemmas.List.{take_all}
+use Rattle.std.proofs.lemmas.List.Folds.{list_any_more}
+use Rattle.neat_rules.specs.State.{total, some_below, Place, Empty, GetLine, Data, Put, PutAck, Commit, Closing, Shut, Slot, Core}
 use Rattle.neat_rules.specs.Rules.{outstanding, shut, settled}
-use Rattle.neat_rules.proofs.Tables.{total_each}
+use Rattle.neat.specs.declared.slot.Slot.{Slot as CodeSlot}
+use Rattle.neat.specs.Parts.{as_slot, as_slots, no_slot}
 
--- The Puts and PutAcks of the lines below n.
-abbrev pub left_below : ℕ → (ℕ → Slot) → ℕ
-left_below n f = total n (λ j. outstanding (f j).place)
+some_taken : {X : Type 0} (p : X → Bool) (xs : List X) (d : X) (n : ℕ) → n ≤ length xs → list_any p (take n xs) ≡ some_below n (λ i. p (get_or xs i d))
+some_taken p xs d zero h = refl
+some_taken p xs d (suc n) h =
+    ap (λ (k : ℕ). list_any p (take k xs)) (sym (add-one n))
+    ∙ list_any_more p xs n d (omega arith)
+    ∙ ap (λ (t : Bool). t || p (get_or xs n d)) (some_taken p xs d n (omega arith))
 
-pub none_more : (n : ℕ) (f : ℕ → Slot) → left_below n f ≡ 0 → 0 ≡ outstanding (f n).place → left_below (n + 1) f ≡ 0
-none_more n f h e = subst (λ (i : ℕ). left_below i f ≡ 0) (sym (add-one n)) (sums (left_below n f) (outstanding (f n).place) h e)
+-- A test of the slots, in turn or by their lines.
+pub some_slot : (q : Slot → Bool) (vs : List CodeSlot) → length vs ≡ 8 → list_any (λ v. q (as_slot v)) vs ≡ some_below 8 (λ l. q (as_slots vs l))
+some_slot q vs h =
+    sym (ap (list_any (λ v. q (as_slot v))) (take_all 8 vs (omega arith)))
+    ∙ some_taken (λ v. q (as_slot v)) vs no_slot 8 (omega arith)
+
+-- Whether a Put or PutAck is in the place.
+abbrev pub is_left : Slot → Bool
+is_left v = eqb (outstanding v.place) 1
+
+outstanding_few : (p : Place) → outstanding p < 2
+outstanding_few Empty = omega arith
+outstanding_few GetLine = omega arith
+outstanding_few (Data d) = omega arith
+outstanding_few (Put b) = omega arith
+outstanding_few PutAck = omega arith
+outstanding_few (Commit b) = omega arith
+
+-- A sum of zeros and ones is 0 where there is no one.
+no_ones : (n : ℕ) (f : ℕ → ℕ) → ((i : ℕ) → f i < 2) → eqb (total n f) 0 ≡ not (some_below n (λ i. eqb (f i) 1))
+no_ones zero f h = refl
+no_ones (suc n) f h = more (total n f) (f n) (some_below n (λ i. eqb (f i) 1)) (no_ones n f h) (h n)
   where
-    sums : (t k : ℕ) → t ≡ 0 → 0 ≡ k → t + k ≡ 0
-    sums t k a b = omega arith
+    more : (t k : ℕ) (s : Bool) → eqb t 0 ≡ not s → k < 2 → eqb (t + k) 0 ≡ not (s || eqb k 1)
+    more t zero s e h = ap (λ (k : ℕ). eqb k 0) (add-zero t) ∙ e ∙ sym (ap not (or-false s))
+    more t (suc zero) s e h = ne_eqb (t + 1) 0 (omega arith) ∙ sym (ap not (or-true s))
+    more t (suc (suc k)) s e h = absurd (omega arith)
 
-pub none_left : (x : Core) (n : ℕ) → x.closing ≡ Shut → left_below n x.slot ≡ 0 → n ≡ 8 → true ≡ settled x
-none_left x n s h e = sym (ap (λ (k : Closing). shut k && eqb (left_below 8 x.slot) 0) s ∙ eq-eqb (left_below 8 x.slot) 0 (subst (λ (i : ℕ). left_below i x.slot ≡ 0) e h))
+pub none_left : (x : Core) (r : Bool) → x.closing ≡ Shut → r ≡ some_below 8 (λ l. is_left (x.slot l)) → not r ≡ settled x
+none_left x r s e = sym (ap (λ (k : Closing). shut k && eqb (total 8 (λ l. outstanding (x.slot l).place)) 0) s ∙ no_ones 8 (λ l. outstanding (x.slot l).place) (λ l. outstanding_few (x.slot l).place) ∙ ap not (sym e))
 
-pub one_left : (x : Core) (n : ℕ) → x.closing ≡ Shut → n < 8 → 1 ≡ outstanding (x.slot n).place → false ≡ settled x
-one_left x n s l e = sym (ap (λ (k : Closing). shut k && eqb (left_below 8 x.slot) 0) s ∙ ne_eqb (left_below 8 x.slot) 0 (more (left_below 8 x.slot) (outstanding (x.slot n).place) (total_each 8 (λ j. outstanding (x.slot j).place) n l) e))
-  where
-    more : (t k : ℕ) → k ≤ t → 1 ≡ k → t ≡ 0 → ⊥
-    more t k a b c = omega arith
+-- A slot's answer whether a Put or PutAck is left.
+pub left_there : (r : Bool) (v : Slot) → (if r then 1 else 0) ≡ outstanding v.place → r ≡ is_left v
+left_there true v e = ap (λ (k : ℕ). eqb k 1) e
+left_there false v e = ap (λ (k : ℕ). eqb k 1) e

@@ -1,25 +1,28 @@
 -- Messages, slots and cores' parts of the code, read as those of the rules.
-use Rattle.std.specs.Prelude.{ℕ, Bool, true, false, not, ◌&&◌, List, [], Some, None, Option, slice_index_or}
-use Rattle.neat_rules.specs.State.{Place, Empty, Closing, Activity, Slot, Core}
+use Rattle.std.specs.Prelude.{◌≡◌, ℕ, Bool, if◌then◌else◌, true, false, not, ◌&&◌, List, [], Some, None, Option, slice_index_or}
+use Rattle.std.specs.Borrow.{MutBor}
+use Rattle.neat_rules.specs.State.{Block, Line, Place, Empty, Closing, Activity, Slot, Core}
 use Rattle.neat_rules.specs.State as rules
+use Rattle.neat_rules.specs.Rules.{commits_of}
 use Rattle.neat_rules.specs.Reading.{carries, close_carries}
+use Rattle.neat.specs.declared.block.Block.{Block as CodeBlock}
 use Rattle.neat.specs.declared.message.Message.{Message}
 use Rattle.neat.specs.declared.message.Message.TheVariants.{GetLine, Data, Put, PutAck, Commit}
 use Rattle.neat.specs.declared.message.Closing.{Closing as CodeClosing}
 use Rattle.neat.specs.declared.message.Closing.TheVariants.{Shut, Close, Noted, PutAllAck}
 use Rattle.neat.specs.declared.core_part.Activity.{Activity as CodeActivity}
-use Rattle.neat.specs.declared.core_part.Activity.TheVariants.{Idle, Loading, Storing, Acquiring, Releasing}
+use Rattle.neat.specs.declared.core_part.Activity.TheVariants.{Loading, Storing, Acquiring, Releasing}
 use Rattle.neat.specs.declared.core_part.CorePart.{CorePart}
 use Rattle.neat.specs.declared.slot.Slot.{Slot as CodeSlot}
-use Rattle.neat.specs.Blocks.{as_bytes}
-use Rattle.neat.specs.Lines.{as_line, as_write_back, written_in}
+use Rattle.neat.specs.Blocks.{as_bytes, as_block}
+use Rattle.neat.specs.Lines.{as_line, written_in}
 
 abbrev pub as_message : Message → Place
 as_message GetLine = rules.GetLine
 as_message (Data d) = rules.Data (as_bytes d)
-as_message (Put w) = rules.Put (as_write_back w)
+as_message (Put w) = rules.Put (as_block w)
 as_message PutAck = rules.PutAck
-as_message (Commit w) = rules.Commit (as_write_back w)
+as_message (Commit w) = rules.Commit (as_block w)
 
 -- A place carries nothing or one message.
 abbrev pub as_place : Option Message → Place
@@ -31,7 +34,7 @@ as_slot v = record { line = as_line v.line; place = as_place v.place }
 
 -- A slot that is I and empty.
 abbrev pub no_slot : CodeSlot
-no_slot = record { line = record { valid = false; bytes = []; written = 0 }; place = None }
+no_slot = record { line = None; place = None }
 
 abbrev pub as_slots : List CodeSlot → ℕ → Slot
 as_slots vs l = as_slot (slice_index_or vs l no_slot)
@@ -42,12 +45,13 @@ as_closing (Close k) = rules.Close k
 as_closing (Noted k) = rules.Noted k
 as_closing PutAllAck = rules.PutAllAck
 
-abbrev pub as_activity : CodeActivity → Activity
-as_activity Idle = rules.Idle
-as_activity (Loading a) = rules.Loading a.number
-as_activity (Storing a y) = rules.Storing a.number y
-as_activity Acquiring = rules.Acquiring
-as_activity Releasing = rules.Releasing
+-- A core waits for nothing, or for the end of a call.
+abbrev pub as_activity : Option CodeActivity → Activity
+as_activity None = rules.Idle
+as_activity (Some (Loading a)) = rules.Loading a.number
+as_activity (Some (Storing a y)) = rules.Storing a.number y
+as_activity (Some Acquiring) = rules.Acquiring
+as_activity (Some Releasing) = rules.Releasing
 
 abbrev pub as_core : CorePart → Core
 as_core x = record { slot = as_slots x.slots; closing = as_closing x.closing; received = x.received; activity = as_activity x.activity }
@@ -75,3 +79,13 @@ stored_in x l o y = rules.with_slot x l (record { line = written_in (x.slot l).l
 -- A core's part whose line l is V with the bytes d, no write bits, and an empty place.
 abbrev pub filled : Core → ℕ → (ℕ → ℕ) → Core
 filled x l d = rules.with_slot x l (record { line = rules.V (rules.clean d); place = Empty })
+
+-- Calls make a message of a block as a rule says, each block b giving m by `makes b m`.
+abbrev pub MakesBy : (CodeBlock → Message → Type 0) → (Block → Place) → Type 0
+MakesBy makes rule = (b : CodeBlock) (m : Message) → makes b m → as_message m ≡ rule (as_block b)
+
+-- Calls send a slot as a rule says, and answer whether they sent a Commit: `sends v r w` where v becomes w with the answer r.
+pub record SendsBy (sends : MutBor CodeSlot → Bool → MutBor CodeSlot → Type 0) (rule : Line → Place → Slot) : Type 0 where
+  pub slot : (v w : MutBor CodeSlot) (r : Bool) → sends v r w → as_slot w.now ≡ rule (as_slot v.now).line (as_slot v.now).place
+  pub commit : (v w : MutBor CodeSlot) (r : Bool) → sends v r w → (if r then 1 else 0) ≡ commits_of (as_slot v.now).line
+  pub nothing : rule rules.I Empty ≡ record { line = rules.I; place = Empty }

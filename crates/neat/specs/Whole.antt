@@ -1,12 +1,11 @@
 -- All caches of the code, read as the state of the rules, and its places.
-use Rattle.std.specs.Prelude.{ℕ, Bool, [], slice_index_or}
+use Rattle.std.specs.Prelude.{ℕ, Bool, None, [], slice_index_or}
 use Rattle.protocol.specs.declared.steps.Reply.{Reply}
 use Rattle.neat_rules.specs.State.{State}
 use Rattle.neat_rules.specs.Rules.{line_move, close_move}
 use Rattle.neat_rules.specs.Reading.{carries, close_carries}
 use Rattle.neat.specs.declared.caches.Caches.{Caches}
 use Rattle.neat.specs.declared.core_part.CorePart.{CorePart}
-use Rattle.neat.specs.declared.core_part.Activity.TheVariants.{Idle}
 use Rattle.neat.specs.declared.message.Closing.TheVariants.{Shut}
 use Rattle.neat.specs.declared.place.Place.{Place}
 use Rattle.neat.specs.declared.place.Place.TheVariants.{Line, Close}
@@ -15,7 +14,7 @@ use Rattle.neat.specs.Parts.{as_core}
 
 -- The part of a core that there is not.
 abbrev pub no_part : CorePart
-no_part = record { slots = []; closing = Shut; received = 0; activity = Idle }
+no_part = record { slots = []; closing = Shut; received = 0; activity = None }
 
 abbrev pub as_state : Caches → State
 as_state x = record { cores = λ c. as_core (slice_index_or x.cores c no_part); llc = λ l. as_bytes (slice_index_or x.llc l []) }

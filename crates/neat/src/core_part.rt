@@ -2,11 +2,11 @@
 
 ghost use Rattle.std.specs.Prelude.{◌≡◌, ◌+◌, ◌<◌};
 ghost use Rattle.protocol.specs.Cells.{line_of};
-ghost use Rattle.neat_rules.specs.State.{with_place, I};
-ghost use Rattle.neat_rules.specs.Rules.{awaiting, load as load_rule, store as store_rule, evict as evict_rule, release as release_rule, acquire as acquire_rule, settled as settled_rule, ended as ended_rule, after_ack, getline_moved, data_moved, put_moved, putack_moved, answered, commit_moved, close_moved, putallack_moved, message_moved, given, close_place_moved};
+ghost use Rattle.neat_rules.specs.State.{with_place, with_activity, Idle, Line as RuleLine, Place, Slot as RuleSlot};
+ghost use Rattle.neat_rules.specs.Rules.{awaiting, closing_by, load as load_rule, store as store_rule, evict as evict_rule, release as release_rule, acquire as acquire_rule, settled as settled_rule, ended as ended_rule, after_ack, getline_moved, data_moved, put_moved, putack_moved, answered, commit_moved, close_moved, putallack_moved, message_moved, given, close_place_moved};
 ghost use Rattle.neat_rules.specs.Reading.{carries, close_carries};
 ghost use Rattle.neat.specs.Blocks.{as_bytes};
-ghost use Rattle.neat.specs.Parts.{as_core, as_activity, as_place, waiting, no_core, quiet, stored_in, filled};
+ghost use Rattle.neat.specs.Parts.{as_core, as_activity, as_place, SendsBy, waiting, no_core, quiet, stored_in, filled};
 
 use crate::message::{Closing, Message};
 use crate::slot::Slot;
@@ -15,8 +15,6 @@ use protocol::{Address, Core, Ended, Line, Offset, Reply};
 /// What a core waits for.
 #[derive(Clone, Copy)]
 pub enum Activity {
-    /// Nothing.
-    Idle,
     /// The line of an address, to load from it.
     Loading(Address),
     /// The line of an address, to store a byte there.
@@ -34,7 +32,8 @@ pub struct CorePart {
     closing: Closing,
     /// The Commits that the LLC has received and not yet answered.
     received: u8,
-    activity: Activity,
+    /// What the core waits for, if it does.
+    activity: Option<Activity>,
 }
 
 /// The number of a core.
@@ -68,7 +67,7 @@ impl CorePart {
             slots: [slot; 8],
             closing: Closing::Shut,
             received: 0,
-            activity: Activity::Idle,
+            activity: None,
         }
     }
 
@@ -76,13 +75,7 @@ impl CorePart {
     pub fn waits(&self) -> bool
         ensures { result ≡ waiting (as_activity self.now.activity) }
     {
-        match self.activity {
-            Activity::Idle => false,
-            Activity::Loading(_)
-            | Activity::Storing(_, _)
-            | Activity::Acquiring
-            | Activity::Releasing => true,
-        }
+        self.activity.is_some()
     }
 
     /// Stores a byte in a line.
@@ -101,22 +94,21 @@ impl CorePart {
 
     /// Asks for the line of an address, and waits.
     fn wait_for(&mut self, address: Address, activity: Activity)
-        ensures { as_core self.new ≡ awaiting (as_core self.old) (line_of address.number) (as_activity activity) }
+        ensures { as_core self.new ≡ awaiting (as_core self.old) (line_of address.number) (as_activity (Some activity)) }
     {
         self.slots[address.line().index()].ask();
-        self.activity = activity;
+        self.activity = Some(activity);
     }
 
     /// Loads a byte: at once with the line V, else when the line has come.
     pub fn load(&mut self, core: Core, address: Address) -> Reply
         ensures { (result, as_core self.new) ≡ load_rule core.number address.number (as_core self.old) }
     {
-        let slot = self.slots[address.line().index()];
-        match slot.line.read(address.offset()) {
-            Some(byte) => Reply::Ended(Ended::Loaded {
+        match &self.slots[address.line().index()].line {
+            Some(block) => Reply::Ended(Ended::Loaded {
                 core: core_number(core),
                 address: address_number(address),
-                byte,
+                byte: block.read(address.offset()),
             }),
             None => {
                 self.wait_for(address, Activity::Loading(address));
@@ -129,7 +121,7 @@ impl CorePart {
     pub fn store(&mut self, core: Core, address: Address, byte: u8) -> Reply
         ensures { (result, as_core self.new) ≡ store_rule core.number address.number byte (as_core self.old) }
     {
-        if self.slots[address.line().index()].line.is_valid() {
+        if self.slots[address.line().index()].line.is_some() {
             self.write(address.line(), address.offset(), byte);
             Reply::Ended(Ended::Stored {
                 core: core_number(core),
@@ -153,45 +145,50 @@ impl CorePart {
         })
     }
 
+    /// Sends what each line has to send, and Close with the number of Commits, and waits.
+    fn close<F: Fn(&mut Slot) -> bool>(&mut self, send: F, activity: Activity) -> Reply
+        requires { F.IsAlwaysCallable send }
+        ensures { (rule : RuleLine → Place → RuleSlot) → SendsBy (F.post send) rule → (result, as_core self.new) ≡ closing_by rule (as_activity (Some activity)) (as_core self.old) }
+    {
+        let mut commits = 0;
+        for slot in self.slots.iter_mut() {
+            if send(slot) {
+                commits += 1;
+            }
+        }
+        self.closing = Closing::Close(commits);
+        self.activity = Some(activity);
+        Reply::Waits
+    }
+
     /// Sends each dirty line as Commit and keeps it, sends Close with their number, and waits.
     pub fn release(&mut self) -> Reply
         ensures { (result, as_core self.new) ≡ release_rule (as_core self.old) }
     {
-        let mut commits = 0;
-        for line in 0..8 {
-            commits += self.slots[line].release();
-        }
-        self.closing = Closing::Close(commits);
-        self.activity = Activity::Releasing;
-        Reply::Waits
+        self.close(Slot::release, Activity::Releasing)
     }
 
     /// Sends each dirty line as Commit, makes every line I, sends Close with the number of Commits, and waits.
     pub fn acquire(&mut self) -> Reply
         ensures { (result, as_core self.new) ≡ acquire_rule (as_core self.old) }
     {
-        let mut commits = 0;
-        for line in 0..8 {
-            commits += self.slots[line].acquire();
-        }
-        self.closing = Closing::Close(commits);
-        self.activity = Activity::Acquiring;
-        Reply::Waits
+        self.close(Slot::acquire, Activity::Acquiring)
     }
 
     /// Whether the Close is over and no Put or PutAck is left.
     fn is_settled(&self) -> bool
         ensures { result ≡ settled_rule (as_core self.now) }
     {
-        let Closing::Shut = self.closing else {
-            return false;
-        };
-        for line in 0..8 {
-            if self.slots[line].is_outstanding() {
-                return false;
-            }
-        }
-        true
+        matches!(self.closing, Closing::Shut) && !self.slots.iter().any(Slot::is_outstanding)
+    }
+
+    /// Ends the call that the core waits for.
+    fn finish(&mut self, call: Ended) -> Reply
+        ensures reply { result ≡ Reply.Finished call }
+        ensures core { as_core self.new ≡ with_activity (as_core self.old) Idle }
+    {
+        self.activity = None;
+        Reply::Finished(call)
     }
 
     /// Ends an acquire or release once the core is settled.
@@ -199,18 +196,12 @@ impl CorePart {
         ensures { (result, as_core self.new) ≡ ended_rule (as_activity self.old.activity) core.number (as_core self.old) }
     {
         match self.activity {
-            Activity::Acquiring if self.is_settled() => {
-                self.activity = Activity::Idle;
-                Reply::Finished(Ended::Acquired {
-                    core: core_number(core),
-                })
-            }
-            Activity::Releasing if self.is_settled() => {
-                self.activity = Activity::Idle;
-                Reply::Finished(Ended::Released {
-                    core: core_number(core),
-                })
-            }
+            Some(Activity::Acquiring) if self.is_settled() => self.finish(Ended::Acquired {
+                core: core_number(core),
+            }),
+            Some(Activity::Releasing) if self.is_settled() => self.finish(Ended::Released {
+                core: core_number(core),
+            }),
             _ => Reply::Moved,
         }
     }
@@ -236,24 +227,20 @@ impl CorePart {
     {
         self.fill(line, bytes);
         match self.activity {
-            Activity::Loading(address) => {
-                self.activity = Activity::Idle;
-                Reply::Finished(Ended::Loaded {
-                    core: core_number(core),
-                    address: address_number(address),
-                    byte: bytes[address.offset().index()],
-                })
-            }
-            Activity::Storing(address, byte) => {
+            Some(Activity::Loading(address)) => self.finish(Ended::Loaded {
+                core: core_number(core),
+                address: address_number(address),
+                byte: bytes[address.offset().index()],
+            }),
+            Some(Activity::Storing(address, byte)) => {
                 self.write(line, address.offset(), byte);
-                self.activity = Activity::Idle;
-                Reply::Finished(Ended::Stored {
+                self.finish(Ended::Stored {
                     core: core_number(core),
                     address: address_number(address),
                     byte,
                 })
             }
-            Activity::Idle | Activity::Acquiring | Activity::Releasing => Reply::Moved,
+            None | Some(Activity::Acquiring | Activity::Releasing) => Reply::Moved,
         }
     }
 
@@ -270,7 +257,7 @@ impl CorePart {
         ensures { as_place result ≡ after_ack (as_core self.now).activity line.number }
     {
         match self.activity {
-            Activity::Loading(address) | Activity::Storing(address, _)
+            Some(Activity::Loading(address) | Activity::Storing(address, _))
                 if address.line().index() == line.index() => { Some(Message::GetLine) }
             _ => None,
         }
@@ -337,21 +324,14 @@ impl CorePart {
     pub fn close_carries(&self) -> bool
         ensures { result ≡ close_carries (as_core self.now).closing }
     {
-        match self.closing {
-            Closing::Close(_) | Closing::PutAllAck => true,
-            Closing::Shut | Closing::Noted(_) => false,
-        }
+        matches!(self.closing, Closing::Close(_) | Closing::PutAllAck)
     }
 
     /// Whether none of the nine places carries a message.
     pub fn is_quiet(&self) -> bool
         ensures { result ≡ quiet (as_core self.now) }
     {
-        let mut open = false;
-        for line in 0..8 {
-            open |= self.slots[line].carries();
-        }
-        !open && !self.close_carries()
+        !self.slots.iter().any(Slot::carries) && !self.close_carries()
     }
 
     /// Moves the message about a line, of which the LLC has `shared`.

@@ -1,15 +1,15 @@
 //! What goes between a core and the shared cache.
 
-use crate::write_back::WriteBack;
+use crate::block::Block;
 
 /// A message about a line. GetLine, Put and Commit go to the LLC, Data and PutAck are its answers.
 #[derive(Clone, Copy)]
 pub enum Message {
     GetLine,
     Data([u8; 8]),
-    Put(WriteBack),
+    Put(Block),
     PutAck,
-    Commit(WriteBack),
+    Commit(Block),
 }
 
 /// Where the Close of a core is. Close and PutAllAck are messages in its close place.

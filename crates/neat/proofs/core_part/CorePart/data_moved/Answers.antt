@@ -1,9 +1,8 @@
-use Rattle.std.proofs.Common.{◌≡◌, ℕ, ◌⊎◌, sym, refl, ap, ◌∙◌, ap₂, inl, inr}
+use Rattle.std.proofs.Common.{◌≡◌, ℕ, Some, sym, refl, ap, ◌∙◌, ap₂}
 use Rattle.protocol.specs.Cells.{offset_of}
-use Rattle.protocol.specs.declared.steps.Ended.TheVariants.{Loaded, Stored}
-use Rattle.protocol.specs.declared.steps.Reply.{Reply}
-use Rattle.protocol.specs.declared.steps.Reply.TheVariants.{Moved, Finished}
-use Rattle.neat_rules.specs.State.{Core, Slot, Activity, Idle, Loading, Storing, Acquiring, Releasing, V, Empty, clean, stored, with_slot, with_activity}
+use Rattle.protocol.specs.declared.steps.Ended.TheVariants.{Stored}
+use Rattle.protocol.specs.declared.steps.Reply.TheVariants.{Finished}
+use Rattle.neat_rules.specs.State.{Core, Slot, Activity, Idle, Storing, V, Empty, clean, stored, with_slot, with_activity}
 use Rattle.neat_rules.specs.Rules.{done, data_moved}
 use Rattle.neat_rules.proofs.Tables.{with_at_here}
 use Rattle.neat.specs.declared.core_part.Activity.TheVariants as code
@@ -21,27 +20,10 @@ by_activity w x y d c l e f = ap (λ (v : Activity). done v d c l y) (sym f) ∙
 filled_stored : (x y : Core) (d : ℕ → ℕ) (l o b : ℕ) → y ≡ filled x l d → stored_in y l o b ≡ with_slot y l (record { line = V (stored (clean d) o b); place = Empty })
 filled_stored x y d l o b e = ap (λ (u : Slot). with_slot y l (record { line = written_in u.line o b; place = u.place })) (ap (λ (z : Core). z.slot l) e ∙ with_at_here x.slot l (record { line = V (clean d); place = Empty }))
 
-pub returns-in-Loading : goal.returns-in-Loading
-returns-in-Loading c =
-    both (ap₂ (λ (n a : ℕ). Finished (Loaded n a (as_bytes c.args.bytes c.index.result))) c.core_number.ensures c.address_number.ensures ∙ ap (λ (o : ℕ). Finished (Loaded c.args.core.number c.in-Loading.address.number (as_bytes c.args.bytes o))) (c.index.ensures ∙ c.offset.ensures)) refl
-    ∙ by_activity (Loading c.in-Loading.address.number) (as_core c.args.self.now) (as_core c.fill.new.self) (as_bytes c.args.bytes) c.args.core.number c.args.line.number c.fill.ensures (ap as_activity c.in-Loading.is)
-
-pub returns-in-Storing : goal.returns-in-Storing
-returns-in-Storing c =
-    both (ap₂ (λ (n a : ℕ). Finished (Stored n a c.in-Storing.byte)) c.core_number-in-Storing.ensures c.address_number-in-Storing.ensures)
-    (ap (λ (z : Core). with_activity z Idle) (c.write.ensures ∙ ap (λ (o : ℕ). stored_in (as_core c.fill.new.self) c.args.line.number o c.in-Storing.byte) c.offset-in-Storing.ensures ∙ filled_stored (as_core c.args.self.now) (as_core c.fill.new.self) (as_bytes c.args.bytes) c.args.line.number (offset_of c.in-Storing.address.number) c.in-Storing.byte c.fill.ensures))
-    ∙ by_activity (Storing c.in-Storing.address.number c.in-Storing.byte) (as_core c.args.self.now) (as_core c.fill.new.self) (as_bytes c.args.bytes) c.args.core.number c.args.line.number c.fill.ensures (ap as_activity c.in-Storing.is)
-
-pub returns-in-Idle : goal.returns-in-Idle
-returns-in-Idle c = go c.in-Idle.is
-  where
-    x : Core
-    x = as_core c.args.self.now
-
-    y : Core
-    y = as_core c.fill.new.self
-
-    go : (c.fill.new.self.activity ≡ code.Idle) ⊎ ((c.fill.new.self.activity ≡ code.Acquiring) ⊎ (c.fill.new.self.activity ≡ code.Releasing)) → ◌≡◌ {A = Reply × Core} (Moved, y) (data_moved (as_bytes c.args.bytes) c.args.core.number c.args.line.number x)
-    go (inl e) = by_activity Idle x y (as_bytes c.args.bytes) c.args.core.number c.args.line.number c.fill.ensures (ap as_activity e)
-    go (inr (inl e)) = by_activity Acquiring x y (as_bytes c.args.bytes) c.args.core.number c.args.line.number c.fill.ensures (ap as_activity e)
-    go (inr (inr e)) = by_activity Releasing x y (as_bytes c.args.bytes) c.args.core.number c.args.line.number c.fill.ensures (ap as_activity e)
+pub returns-in-Some-Storing : goal.returns-in-Some-Storing
+returns-in-Some-Storing c =
+    let waits : c.fill.new.self.activity ≡ Some c.in-Some-Storing.field-0 = c.in-Some-Storing.is in
+    let stores : c.in-Some-Storing.field-0 ≡ code.Storing c.in-Some-Storing.address c.in-Some-Storing.byte = rw c.in-Some-Storing.is at c.in-Some-Storing.field-0-is in
+    both (c.finish-in-Some-Storing.ensures.reply ∙ ap₂ (λ (n a : ℕ). Finished (Stored n a c.in-Some-Storing.byte)) c.core_number-in-Some-Storing.ensures c.address_number-in-Some-Storing.ensures)
+    (c.finish-in-Some-Storing.ensures.core ∙ ap (λ (z : Core). with_activity z Idle) (c.write.ensures ∙ ap (λ (o : ℕ). stored_in (as_core c.fill.new.self) c.args.line.number o c.in-Some-Storing.byte) c.offset-in-Some-Storing.ensures ∙ filled_stored (as_core c.args.self.now) (as_core c.fill.new.self) (as_bytes c.args.bytes) c.args.line.number (offset_of c.in-Some-Storing.address.number) c.in-Some-Storing.byte c.fill.ensures))
+    ∙ by_activity (Storing c.in-Some-Storing.address.number c.in-Some-Storing.byte) (as_core c.args.self.now) (as_core c.fill.new.self) (as_bytes c.args.bytes) c.args.core.number c.args.line.number c.fill.ensures (ap as_activity waits ∙ ap (λ w. as_activity (Some w)) stores)

@@ -1,13 +1,15 @@
-use Rattle.std.proofs.Common.{ap, arith}
-use Rattle.neat.specs.Parts.{as_closing, as_core, as_slots}
-use Rattle.neat.proofs.Settling.{none_more, none_left, one_left}
+use Rattle.std.proofs.Common.{◌≡◌, true, false, sym, refl, ap, ◌∙◌, rules, arith}
+use Rattle.std.proofs.lemmas.Bool.{false≢true}
+use Rattle.std.proofs.lemmas.Iterator.{YieldsList-from_slice}
+use Rattle.std.proofs.lemmas.Iterator.Search.{any_from_yields_List}
+use Rattle.neat.specs.declared.message.Closing.TheVariants.{Shut}
+use Rattle.neat.specs.Parts.{as_core, as_slot, as_closing}
+use Rattle.neat.proofs.Settling.{is_left, some_slot, none_left, left_there}
 use Rattle.neat.proofs.core_part.CorePart.is_settled.Goals as goal
+use Rattle.neat.proofs.core_part.CorePart.is_settled.Goals.{in-Shut, in_default}
 
-pub returns-then-is_outstanding : goal.returns-then-is_outstanding
-returns-then-is_outstanding c = one_left (as_core c.args.self.now) c.loop-line.line (ap as_closing c.in-Shut.is) c.loop-line-test.true c.if-is_outstanding.ensures
-
-pub loop-line-preserved : goal.loop-line-preserved
-loop-line-preserved c = none_more c.loop-line.line (as_slots c.args.self.now.slots) c.loop-line.invariant c.if-is_outstanding.ensures
-
-pub returns : goal.returns
-returns c = none_left (as_core c.args.self.now) c.loop-line.line (ap as_closing c.in-Shut.is) c.loop-line.invariant (omega arith)
+pub returns-then-matches : goal.returns-then-matches
+returns-then-matches c =
+    let over : c.args.self.now.closing ≡ Shut = elim c.match-matches.branch [ in-Shut w ↦ w.in-Shut.is | in_default w ↦ absurd (false≢true (sym w.matches-is ∙ c.if-matches.true)) ] in
+    none_left (as_core c.args.self.now) c.any.result (ap as_closing over)
+    (any_from_yields_List (λ v. is_left (as_slot v)) _ _ c.any.result c.any.ensures.ran (YieldsList-from_slice c.args.self.now.slots cc) (λ x b q k. search (rules, left_there)) ∙ some_slot is_left c.args.self.now.slots (omega arith))
