@@ -1,7 +1,8 @@
 -- A place by its number: whether it is open, its move, and the search for the first that is open.
-use Rattle.std.proofs.Common.{◌≡◌, ℕ, suc, ◌+◌, ◌-◌, ◌/◌, ◌%◌, ◌<◌, ◌≤◌, Bool, true, false, cond, eqb, ltb, Some, None, Option, sym, refl, ap, ◌∙◌, ap₂, arith}
+use Rattle.std.proofs.Common.{◌≡◌, ℕ, suc, ◌+◌, ◌-◌, ◌/◌, ◌%◌, ◌<◌, ◌≤◌, Bool, true, false, cond, eqb, ltb, Some, None, Ok, Err, Result, sym, refl, ap, ◌∙◌, ap₂, arith}
 use Rattle.std.proofs.lemmas.Bool.{eq-eqb, ne_eqb, cond-true, cond-false}
 use Rattle.protocol.specs.Rules.{guarded}
+use Rattle.protocol.specs.declared.steps.Refusal.{Refusal}
 use Rattle.protocol.specs.declared.steps.Refusal.TheVariants.{PlaceNotOpen}
 use Rattle.protocol.specs.declared.steps.Reply.{Reply}
 use Rattle.protocol.specs.declared.steps.Step.TheVariants.{Move}
@@ -14,31 +15,31 @@ use Rattle.neat.specs.Places.{located, place_at}
 use Rattle.neat.specs.Whole.{open_there, moved_there}
 use Rattle.neat.proofs.Steps.{accepted}
 
-core_part : Option (ℕ × ℕ) → ℕ
-core_part None = 0
-core_part (Some p) = p.0
+core_part : Result (ℕ × ℕ) Refusal → ℕ
+core_part (Err e) = 0
+core_part (Ok p) = p.0
 
-line_part : Option (ℕ × ℕ) → ℕ
-line_part None = 0
-line_part (Some p) = p.1
+line_part : Result (ℕ × ℕ) Refusal → ℕ
+line_part (Err e) = 0
+line_part (Ok p) = p.1
 
 -- A located place is one of the 72, and has the core and the line of its number.
-pub placed : (n x y : ℕ) → ◌≡◌ {A = Option (ℕ × ℕ)} (Some (x, y)) (place_at n) → (ltb n 72 ≡ true) × (x ≡ n / 9) × (y ≡ n % 9)
+pub placed : (n x y : ℕ) → ◌≡◌ {A = Result (ℕ × ℕ) Refusal} (Ok (x, y)) (place_at n) → (ltb n 72 ≡ true) × (x ≡ n / 9) × (y ≡ n % 9)
 unfolding core_part line_part
 placed n x y h = go (ltb n 72) h
   where
-    go : (t : Bool) → ◌≡◌ {A = Option (ℕ × ℕ)} (Some (x, y)) (cond t (Some (n / 9, n % 9)) None) → (t ≡ true) × (x ≡ n / 9) × (y ≡ n % 9)
+    go : (t : Bool) → ◌≡◌ {A = Result (ℕ × ℕ) Refusal} (Ok (x, y)) (cond t (Ok (n / 9, n % 9)) (Err PlaceNotOpen)) → (t ≡ true) × (x ≡ n / 9) × (y ≡ n % 9)
     go true h = (refl, ap core_part h, ap line_part h)
     go false h = let z : ◌≡◌ {A = ℕ} 0 1 = cc in absurd (omega arith)
 
-pub not_placed : (n : ℕ) → None ≡ place_at n → ltb n 72 ≡ false
-not_placed n h = go (ltb n 72) h
+pub not_placed : (n : ℕ) (e : Refusal) → Err e ≡ place_at n → ltb n 72 ≡ false
+not_placed n e h = go (ltb n 72) h
   where
-    go : (t : Bool) → ◌≡◌ {A = Option (ℕ × ℕ)} None (cond t (Some (n / 9, n % 9)) None) → t ≡ false
+    go : (t : Bool) → ◌≡◌ {A = Result (ℕ × ℕ) Refusal} (Err e) (cond t (Ok (n / 9, n % 9)) (Err PlaceNotOpen)) → t ≡ false
     go true h = let z : ◌≡◌ {A = ℕ} 0 1 = cc in absurd (omega arith)
     go false h = refl
 
-pub open_placed : (s : State) (p : Place) (n : ℕ) → located (Some p) ≡ place_at n → open_in s n ≡ open_there s p
+pub open_placed : (s : State) (p : Place) (n : ℕ) → located (Ok p) ≡ place_at n → open_in s n ≡ open_there s p
 open_placed s (Line c l) n h =
     let q = placed n c.number l.number h in
     let l_is = q.2 in
@@ -52,10 +53,10 @@ open_placed s (Close c) n h =
     ∙ cond-true (eqb (n % 9) 8) (close_carries (s.cores (n / 9)).closing) (carries ((s.cores (n / 9)).slot (n % 9)).place) (eq-eqb (n % 9) 8 (sym q.2))
     ∙ sym (ap (λ (d : ℕ). close_carries (s.cores d).closing) q.1)
 
-pub shut_nowhere : (s : State) (n : ℕ) → None ≡ place_at n → open_in s n ≡ false
-shut_nowhere s n h = cond-false (ltb n 72) (cond (eqb (n % 9) 8) (close_carries (s.cores (n / 9)).closing) (carries ((s.cores (n / 9)).slot (n % 9)).place)) false (not_placed n h)
+pub shut_nowhere : (s : State) (n : ℕ) (e : Refusal) → Err e ≡ place_at n → open_in s n ≡ false
+shut_nowhere s n e h = cond-false (ltb n 72) (cond (eqb (n % 9) 8) (close_carries (s.cores (n / 9)).closing) (carries ((s.cores (n / 9)).slot (n % 9)).place)) false (not_placed n e h)
 
-moved_placed : (s : State) (p : Place) (n : ℕ) → located (Some p) ≡ place_at n → moved_there s p ≡ act s (Move n)
+moved_placed : (s : State) (p : Place) (n : ℕ) → located (Ok p) ≡ place_at n → moved_there s p ≡ act s (Move n)
 moved_placed s (Line c l) n h =
     let q = placed n c.number l.number h in
     let l_is = q.2 in
@@ -65,7 +66,7 @@ moved_placed s (Close c) n h =
     let q = placed n c.number 8 h in
     ap (close_move s) q.1 ∙ sym (cond-true (eqb (n % 9) 8) (close_move s (n / 9)) (line_move s (n / 9) (n % 9)) (eq-eqb (n % 9) 8 (sym q.2)))
 
-pub move_step : (s : State) (p : Place) (n : ℕ) (q : Reply × State) → located (Some p) ≡ place_at n → true ≡ open_there s p → q ≡ moved_there s p → q ≡ guarded moment act s (Move n)
+pub move_step : (s : State) (p : Place) (n : ℕ) (q : Reply × State) → located (Ok p) ≡ place_at n → true ≡ open_there s p → q ≡ moved_there s p → q ≡ guarded moment act s (Move n)
 move_step s p n q h o e =
     accepted s (Move n) q (cond-true (open_in s n) None (Some PlaceNotOpen) (open_placed s p n h ∙ sym o)) (e ∙ moved_placed s p n h)
 
@@ -78,9 +79,3 @@ search_more s n h e = ap (λ (k : ℕ). first_open k s n) (more n h) ∙ cond-fa
 
 pub search_found : (s : State) (n : ℕ) → n < 72 → open_in s n ≡ true → Some n ≡ next_open s n
 search_found s n h e = sym (ap (λ (k : ℕ). first_open k s n) (more n h) ∙ cond-true (open_in s n) (Some n) (first_open (72 - (n + 1)) s (n + 1)) e)
-
-pub search_done : (s : State) (n : ℕ) → 72 ≤ n → None ≡ next_open s n
-search_done s n h = sym (ap (λ (k : ℕ). first_open k s n) (none n h))
-  where
-    none : (n : ℕ) → 72 ≤ n → 72 - n ≡ 0
-    none n h = omega arith

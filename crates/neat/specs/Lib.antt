@@ -1,4 +1,5 @@
 pub mod Blocks
+pub mod Calls
 pub mod Lines
 pub mod Parts
 pub mod Places

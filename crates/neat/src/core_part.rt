@@ -36,27 +36,6 @@ pub struct CorePart {
     activity: Option<Activity>,
 }
 
-/// The number of a core.
-fn core_number(core: Core) -> u8
-    ensures { result ≡ core.number }
-{
-    core.index() as u8
-}
-
-/// The number of a line.
-fn line_number(line: Line) -> u8
-    ensures { result ≡ line.number }
-{
-    line.index() as u8
-}
-
-/// The number of an address.
-fn address_number(address: Address) -> u8
-    ensures { result ≡ address.number }
-{
-    line_number(address.line()) * 8 + address.offset().index() as u8
-}
-
 impl CorePart {
     /// A core with every line I and nothing on its way.
     pub fn new() -> CorePart
@@ -106,8 +85,8 @@ impl CorePart {
     {
         match &self.slots[address.line().index()].line {
             Some(block) => Reply::Ended(Ended::Loaded {
-                core: core_number(core),
-                address: address_number(address),
+                core: core.into(),
+                address: address.into(),
                 byte: block.read(address.offset()),
             }),
             None => {
@@ -124,8 +103,8 @@ impl CorePart {
         if self.slots[address.line().index()].line.is_some() {
             self.write(address.line(), address.offset(), byte);
             Reply::Ended(Ended::Stored {
-                core: core_number(core),
-                address: address_number(address),
+                core: core.into(),
+                address: address.into(),
                 byte,
             })
         } else {
@@ -140,8 +119,8 @@ impl CorePart {
     {
         self.slots[line.index()].evict();
         Reply::Ended(Ended::Evicted {
-            core: core_number(core),
-            line: line_number(line),
+            core: core.into(),
+            line: line.into(),
         })
     }
 
@@ -179,7 +158,7 @@ impl CorePart {
     fn is_settled(&self) -> bool
         ensures { result ≡ settled_rule (as_core self.now) }
     {
-        matches!(self.closing, Closing::Shut) && !self.slots.iter().any(Slot::is_outstanding)
+        self.closing == Closing::Shut && !self.slots.iter().any(Slot::is_outstanding)
     }
 
     /// Ends the call that the core waits for.
@@ -197,10 +176,10 @@ impl CorePart {
     {
         match self.activity {
             Some(Activity::Acquiring) if self.is_settled() => self.finish(Ended::Acquired {
-                core: core_number(core),
+                core: core.into(),
             }),
             Some(Activity::Releasing) if self.is_settled() => self.finish(Ended::Released {
-                core: core_number(core),
+                core: core.into(),
             }),
             _ => Reply::Moved,
         }
@@ -228,15 +207,15 @@ impl CorePart {
         self.fill(line, bytes);
         match self.activity {
             Some(Activity::Loading(address)) => self.finish(Ended::Loaded {
-                core: core_number(core),
-                address: address_number(address),
+                core: core.into(),
+                address: address.into(),
                 byte: bytes[address.offset().index()],
             }),
             Some(Activity::Storing(address, byte)) => {
                 self.write(line, address.offset(), byte);
                 self.finish(Ended::Stored {
-                    core: core_number(core),
-                    address: address_number(address),
+                    core: core.into(),
+                    address: address.into(),
                     byte,
                 })
             }
@@ -258,7 +237,7 @@ impl CorePart {
     {
         match self.activity {
             Some(Activity::Loading(address) | Activity::Storing(address, _))
-                if address.line().index() == line.index() => { Some(Message::GetLine) }
+                if address.line() == line => { Some(Message::GetLine) }
             _ => None,
         }
     }
@@ -276,12 +255,9 @@ impl CorePart {
     fn answer(&mut self)
         ensures { as_core self.new ≡ answered (as_core self.old) }
     {
-        match self.closing {
-            Closing::Noted(count) if count == self.received => {
-                self.closing = Closing::PutAllAck;
-                self.received = 0;
-            }
-            _ => {}
+        if self.closing == Closing::Noted(self.received) {
+            self.closing = Closing::PutAllAck;
+            self.received = 0;
         }
     }
 

@@ -13,7 +13,7 @@ pub enum Message {
 }
 
 /// Where the Close of a core is. Close and PutAllAck are messages in its close place.
-#[derive(Clone, Copy)]
+#[derive(Clone, Copy, PartialEq, Eq)]
 pub enum Closing {
     /// There is none.
     Shut,

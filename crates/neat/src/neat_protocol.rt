@@ -1,15 +1,17 @@
 //! Neat behind the interface that every protocol keeps.
 
-ghost use Rattle.std.specs.Prelude.{◌≡◌, ◌+◌, ◌<◌, true};
-ghost use Rattle.protocol.specs.Meaning.{Reached};
+ghost use Rattle.std.specs.Prelude.{◌≡◌, ◌+◌, ◌<◌, true, cond, nat_le, IfOk};
+ghost use Rattle.protocol.specs.Meaning.{Reached, busy};
+ghost use Rattle.protocol.specs.declared.steps.Refusal.TheVariants.{NoSuchCore};
 ghost use Rattle.neat_rules.specs.State.{start};
 ghost use Rattle.neat_rules.specs.Machine.{neat};
-ghost use Rattle.neat_rules.specs.Reading.{open_in, next_open};
+ghost use Rattle.neat_rules.specs.Reading.{moment, open_in, next_open};
+ghost use Rattle.neat.specs.Calls.{refusal_of, or_else};
 ghost use Rattle.neat.specs.Whole.{as_state};
 ghost use Rattle.neat_rules.proofs.Keeps.{neat_keeps};
 
 use crate::caches::Caches;
-use crate::place::locate;
+use crate::place::Place;
 use protocol::{Address, Core, Line, Protocol, Refusal, Reply};
 
 /// The protocol Neat. Its caches are always in a state that a clear and the steps after it have led to.
@@ -33,20 +35,27 @@ impl Neat {
     fn is_open(&self, number: u8) -> bool
         ensures { result ≡ open_in (as_state self.now.caches) number }
     {
-        match locate(number) {
-            Some(place) => self.caches.is_open(place),
-            None => false,
-        }
+        Place::try_from(number).is_ok_and(|place| self.caches.is_open(place))
     }
 
     /// Whether the nine places of a core begin at that number, and none of them carries a message.
     fn is_quiet_from(&self, number: u8) -> bool
         ensures { result ≡ true → (number < 64) × (next_open (as_state self.now.caches) number ≡ next_open (as_state self.now.caches) (number + 9)) }
     {
-        match Core::try_from(number / 9) {
-            Ok(core) if number % 9 == 0 => self.caches.is_quiet(core),
-            _ => false,
+        number % 9 == 0 && Core::try_from(number / 9).is_ok_and(|core| self.caches.is_quiet(core))
+    }
+
+    /// The core that calls and what it names, or why the call is refused.
+    fn caller<T: Drop>(&self, core: u8, named: Result<T, Refusal>) -> Result<(Core, T), Refusal>
+        ensures refused { refusal_of result ≡ cond (nat_le 8 core) (Some NoSuchCore) (or_else (refusal_of named) (busy ((moment (as_state self.now.caches)).waits core))) }
+        ensures called { IfOk result (λ p. (p.0.number ≡ core) × (named ≡ Ok p.1)) }
+    {
+        let core = Core::try_from(core)?;
+        let named = named?;
+        if self.caches.waits(core) {
+            return Err(Refusal::CoreWaits);
         }
+        Ok((core, named))
     }
 }
 
@@ -62,72 +71,45 @@ impl Protocol for Neat {
     }
 
     fn load(&mut self, core: u8, address: u8) -> Reply {
-        let Ok(core) = Core::try_from(core) else {
-            return Reply::Refused(Refusal::NoSuchCore);
-        };
-        let Ok(address) = Address::try_from(address) else {
-            return Reply::Refused(Refusal::NoSuchAddress);
-        };
-        if self.caches.waits(core) {
-            return Reply::Refused(Refusal::CoreWaits);
+        match self.caller(core, Address::try_from(address)) {
+            Ok((core, address)) => self.caches.load(core, address),
+            Err(refusal) => Reply::Refused(refusal),
         }
-        self.caches.load(core, address)
     }
 
     fn store(&mut self, core: u8, address: u8, byte: u8) -> Reply {
-        let Ok(core) = Core::try_from(core) else {
-            return Reply::Refused(Refusal::NoSuchCore);
-        };
-        let Ok(address) = Address::try_from(address) else {
-            return Reply::Refused(Refusal::NoSuchAddress);
-        };
-        if self.caches.waits(core) {
-            return Reply::Refused(Refusal::CoreWaits);
+        match self.caller(core, Address::try_from(address)) {
+            Ok((core, address)) => self.caches.store(core, address, byte),
+            Err(refusal) => Reply::Refused(refusal),
         }
-        self.caches.store(core, address, byte)
     }
 
     fn acquire(&mut self, core: u8) -> Reply {
-        let Ok(core) = Core::try_from(core) else {
-            return Reply::Refused(Refusal::NoSuchCore);
-        };
-        if self.caches.waits(core) {
-            return Reply::Refused(Refusal::CoreWaits);
+        match self.caller(core, Ok(())) {
+            Ok((core, ())) => self.caches.acquire(core),
+            Err(refusal) => Reply::Refused(refusal),
         }
-        self.caches.acquire(core)
     }
 
     fn release(&mut self, core: u8) -> Reply {
-        let Ok(core) = Core::try_from(core) else {
-            return Reply::Refused(Refusal::NoSuchCore);
-        };
-        if self.caches.waits(core) {
-            return Reply::Refused(Refusal::CoreWaits);
+        match self.caller(core, Ok(())) {
+            Ok((core, ())) => self.caches.release(core),
+            Err(refusal) => Reply::Refused(refusal),
         }
-        self.caches.release(core)
     }
 
     fn evict(&mut self, core: u8, line: u8) -> Reply {
-        let Ok(core) = Core::try_from(core) else {
-            return Reply::Refused(Refusal::NoSuchCore);
-        };
-        let Ok(line) = Line::try_from(line) else {
-            return Reply::Refused(Refusal::NoSuchAddress);
-        };
-        if self.caches.waits(core) {
-            return Reply::Refused(Refusal::CoreWaits);
+        match self.caller(core, Line::try_from(line)) {
+            Ok((core, line)) => self.caches.evict(core, line),
+            Err(refusal) => Reply::Refused(refusal),
         }
-        self.caches.evict(core, line)
     }
 
     fn move_message(&mut self, place: u8) -> Reply {
-        let Some(place) = locate(place) else {
-            return Reply::Refused(Refusal::PlaceNotOpen);
-        };
-        if !self.caches.is_open(place) {
-            return Reply::Refused(Refusal::PlaceNotOpen);
+        match Place::try_from(place) {
+            Ok(place) if self.caches.is_open(place) => self.caches.deliver(place),
+            _ => Reply::Refused(Refusal::PlaceNotOpen),
         }
-        self.caches.deliver(place)
     }
 
     fn image(&self, address: u8) -> Result<u8, Refusal> {

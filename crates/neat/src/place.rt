@@ -3,7 +3,7 @@
 ghost use Rattle.std.specs.Prelude.{◌≡◌};
 ghost use Rattle.neat.specs.Places.{located, place_at};
 
-use protocol::{Core, Line};
+use protocol::{Core, Line, Refusal};
 
 /// A place: of a core and a line, or the close place of a core.
 #[derive(Clone, Copy)]
@@ -12,15 +12,17 @@ pub enum Place {
     Close(Core),
 }
 
-/// The place of that number: 9c+l is of core c and line l, 9c+8 is the close place of core c.
-pub fn locate(number: u8) -> Option<Place>
-    ensures { located result ≡ place_at number }
-{
-    let Ok(core) = Core::try_from(number / 9) else {
-        return None;
-    };
-    match Line::try_from(number % 9) {
-        Ok(line) => Some(Place::Line(core, line)),
-        Err(_) => Some(Place::Close(core)),
+impl TryFrom<u8> for Place {
+    type Error = Refusal;
+
+    ghost try_from_gives = { λ n r. located r ≡ place_at n };
+
+    /// The place of that number: 9c+l is of core c and line l, 9c+8 is the close place of core c.
+    fn try_from(number: u8) -> Result<Place, Refusal> {
+        match (Core::try_from(number / 9), Line::try_from(number % 9)) {
+            (Ok(core), Ok(line)) => Ok(Place::Line(core, line)),
+            (Ok(core), Err(_)) => Ok(Place::Close(core)),
+            (Err(_), _) => Err(Refusal::PlaceNotOpen),
+        }
     }
 }

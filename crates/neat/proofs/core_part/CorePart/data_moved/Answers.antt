@@ -24,6 +24,6 @@ pub returns-in-Some-Storing : goal.returns-in-Some-Storing
 returns-in-Some-Storing c =
     let waits : c.fill.new.self.activity ≡ Some c.in-Some-Storing.field-0 = c.in-Some-Storing.is in
     let stores : c.in-Some-Storing.field-0 ≡ code.Storing c.in-Some-Storing.address c.in-Some-Storing.byte = rw c.in-Some-Storing.is at c.in-Some-Storing.field-0-is in
-    both (c.finish-in-Some-Storing.ensures.reply ∙ ap₂ (λ (n a : ℕ). Finished (Stored n a c.in-Some-Storing.byte)) c.core_number-in-Some-Storing.ensures c.address_number-in-Some-Storing.ensures)
+    both (c.finish-in-Some-Storing.ensures.reply ∙ ap₂ (λ (n a : ℕ). Finished (Stored n a c.in-Some-Storing.byte)) c.into-in-Some-Storing.ensures c.into-in-Some-Storing-2.ensures)
     (c.finish-in-Some-Storing.ensures.core ∙ ap (λ (z : Core). with_activity z Idle) (c.write.ensures ∙ ap (λ (o : ℕ). stored_in (as_core c.fill.new.self) c.args.line.number o c.in-Some-Storing.byte) c.offset-in-Some-Storing.ensures ∙ filled_stored (as_core c.args.self.now) (as_core c.fill.new.self) (as_bytes c.args.bytes) c.args.line.number (offset_of c.in-Some-Storing.address.number) c.in-Some-Storing.byte c.fill.ensures))
     ∙ by_activity (Storing c.in-Some-Storing.address.number c.in-Some-Storing.byte) (as_core c.args.self.now) (as_core c.fill.new.self) (as_bytes c.args.bytes) c.args.core.number c.args.line.number c.fill.ensures (ap as_activity waits ∙ ap (λ w. as_activity (Some w)) stores)

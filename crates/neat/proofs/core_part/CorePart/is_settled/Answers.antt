@@ -6,10 +6,9 @@ use Rattle.neat.specs.declared.message.Closing.TheVariants.{Shut}
 use Rattle.neat.specs.Parts.{as_core, as_slot, as_closing}
 use Rattle.neat.proofs.Settling.{is_left, some_slot, none_left, left_there}
 use Rattle.neat.proofs.core_part.CorePart.is_settled.Goals as goal
-use Rattle.neat.proofs.core_part.CorePart.is_settled.Goals.{in-Shut, in_default}
 
-pub returns-then-matches : goal.returns-then-matches
-returns-then-matches c =
-    let over : c.args.self.now.closing ≡ Shut = elim c.match-matches.branch [ in-Shut w ↦ w.in-Shut.is | in_default w ↦ absurd (false≢true (sym w.matches-is ∙ c.if-matches.true)) ] in
+pub returns-then-eq : goal.returns-then-eq
+returns-then-eq c =
+    let over : c.args.self.now.closing ≡ Shut = search rules in
     none_left (as_core c.args.self.now) c.any.result (ap as_closing over)
     (any_from_yields_List (λ v. is_left (as_slot v)) _ _ c.any.result c.any.ensures.ran (YieldsList-from_slice c.args.self.now.slots cc) (λ x b q k. search (rules, left_there)) ∙ some_slot is_left c.args.self.now.slots (omega arith))
