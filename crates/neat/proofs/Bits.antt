@@ -44,10 +44,6 @@ or_zero zero h = refl
 or_zero (suc zero) h = refl
 or_zero (suc (suc x)) h = absurd (omega arith)
 
--- The mask 0 has no bits.
-pub no_bits : as_bits 0 ≡ (λ (o : ℕ). false)
-no_bits = fun_ext (λ o. ap (λ (k : ℕ). eqb (k % 2) 1) (zero-div (2 ^ o)))
-
 -- A mask with bit o set.
 pub bits_set : (m o : ℕ) → as_bits (bit_or m (2 ^ o)) ≡ with_at (as_bits m) o true
 bits_set m o = fun_ext (λ p. go p (eqb p o) refl)
@@ -62,27 +58,3 @@ bits_set m o = fun_ext (λ p. go p (eqb p o) refl)
     go p false e =
         ap (λ (k : ℕ). eqb k 1)
         (bit_of_or m (2 ^ o) p ∙ ap (bit_or (m / 2 ^ p % 2)) (bit_other o p (eqb-false p o e)) ∙ or_zero (m / 2 ^ p % 2) (digit p))
-
--- A mask below 2 ^ n whose n bits are 0 is 0.
-empty_mask : (n m : ℕ) → m < 2 ^ n → ((i : ℕ) → i < n → m / 2 ^ i % 2 ≡ 0) → m ≡ 0
-empty_mask zero m h bits = omega arith
-empty_mask (suc n) m h bits =
-    let twice : 2 ^ suc n ≡ 2 ^ n * 2 = pow-suc 2 n in
-    let half : m / 2 ≡ 0 = empty_mask n (m / 2) (omega arith) (λ i l. ap (λ (k : ℕ). k % 2) (shr-shr m 1 i) ∙ bits (1 + i) (omega arith)) in
-    let low : m / 2 ^ 0 % 2 ≡ 0 = bits 0 (omega arith) in
-    omega arith
-
--- A mask of eight bits that is not 0 has a bit that is set.
-pub dirty_mask : (m : ℕ) → m < 256 → some_below 8 (as_bits m) ≡ not (eqb m 0)
-dirty_mask m h = go (eqb m 0) refl
-  where
-    clear : some_below 8 (as_bits m) ≡ false → (i : ℕ) → i < 8 → m / 2 ^ i % 2 ≡ 0
-    clear e i l = let ne : m / 2 ^ i % 2 ≡ 1 → ⊥ = eqb-false (m / 2 ^ i % 2) 1 (none_below 8 (as_bits m) e i l) in omega arith
-
-    some : (t : Bool) → some_below 8 (as_bits m) ≡ t → eqb m 0 ≡ false → t ≡ true
-    some true e n = refl
-    some false e n = absurd (eqb-false m 0 n (empty_mask 8 m h (clear e)))
-
-    go : (t : Bool) → eqb m 0 ≡ t → some_below 8 (as_bits m) ≡ not t
-    go true e = ap (λ (k : ℕ). some_below 8 (as_bits k)) (eqb-true m 0 e)
-    go false e = some (some_below 8 (as_bits m)) refl e

@@ -24,7 +24,7 @@ line_part (Err e) = 0
 line_part (Ok p) = p.1
 
 -- A located place is one of the 72, and has the core and the line of its number.
-pub placed : (n x y : ℕ) → ◌≡◌ {A = Result (ℕ × ℕ) Refusal} (Ok (x, y)) (place_at n) → (ltb n 72 ≡ true) × (x ≡ n / 9) × (y ≡ n % 9)
+placed : (n x y : ℕ) → ◌≡◌ {A = Result (ℕ × ℕ) Refusal} (Ok (x, y)) (place_at n) → (ltb n 72 ≡ true) × (x ≡ n / 9) × (y ≡ n % 9)
 unfolding core_part line_part
 placed n x y h = go (ltb n 72) h
   where
@@ -32,14 +32,7 @@ placed n x y h = go (ltb n 72) h
     go true h = (refl, ap core_part h, ap line_part h)
     go false h = let z : ◌≡◌ {A = ℕ} 0 1 = cc in absurd (omega arith)
 
-pub not_placed : (n : ℕ) (e : Refusal) → Err e ≡ place_at n → ltb n 72 ≡ false
-not_placed n e h = go (ltb n 72) h
-  where
-    go : (t : Bool) → ◌≡◌ {A = Result (ℕ × ℕ) Refusal} (Err e) (cond t (Ok (n / 9, n % 9)) (Err PlaceNotOpen)) → t ≡ false
-    go true h = let z : ◌≡◌ {A = ℕ} 0 1 = cc in absurd (omega arith)
-    go false h = refl
-
-pub open_placed : (s : State) (p : Place) (n : ℕ) → located (Ok p) ≡ place_at n → open_in s n ≡ open_there s p
+open_placed : (s : State) (p : Place) (n : ℕ) → located (Ok p) ≡ place_at n → open_in s n ≡ open_there s p
 open_placed s (Line c l) n h =
     let q = placed n c.number l.number h in
     let l_is = q.2 in
@@ -52,9 +45,6 @@ open_placed s (Close c) n h =
     cond-true (ltb n 72) (cond (eqb (n % 9) 8) (close_carries (s.cores (n / 9)).closing) (carries ((s.cores (n / 9)).slot (n % 9)).place)) false q.0
     ∙ cond-true (eqb (n % 9) 8) (close_carries (s.cores (n / 9)).closing) (carries ((s.cores (n / 9)).slot (n % 9)).place) (eq-eqb (n % 9) 8 (sym q.2))
     ∙ sym (ap (λ (d : ℕ). close_carries (s.cores d).closing) q.1)
-
-pub shut_nowhere : (s : State) (n : ℕ) (e : Refusal) → Err e ≡ place_at n → open_in s n ≡ false
-shut_nowhere s n e h = cond-false (ltb n 72) (cond (eqb (n % 9) 8) (close_carries (s.cores (n / 9)).closing) (carries ((s.cores (n / 9)).slot (n % 9)).place)) false (not_placed n e h)
 
 moved_placed : (s : State) (p : Place) (n : ℕ) → located (Ok p) ≡ place_at n → moved_there s p ≡ act s (Move n)
 moved_placed s (Line c l) n h =

@@ -37,3 +37,7 @@ pub search_skips : (s : State) (n : ℕ) → n % 9 ≡ 0 → n < 72 → quiet (s
 search_skips s n e l q =
     search_past s n 9 (omega arith)
     (λ i m. let same : n / 9 ≡ (n + i) / 9 = omega arith in shut_there s (n + i) (subst (λ (c : ℕ). quiet (s.cores c) ≡ true) same q))
+
+-- One line more.
+pub some_more : (n : ℕ) (f : ℕ → Bool) (x y : Bool) → x ≡ some_below n f → y ≡ f n → (x || y) ≡ some_below (n + 1) f
+some_more n f x y p q = ap₂ ◌||◌ p q ∙ ap (λ (k : ℕ). some_below k f) (sym (add-one n))

@@ -7,7 +7,8 @@ use Rattle.neat_rules.specs.Rules.{message_moved, given, line_move, at_core}
 use Rattle.neat.specs.declared.core_part.CorePart.{CorePart}
 use Rattle.neat.specs.Blocks.{as_bytes}
 use Rattle.neat.specs.Parts.{as_core}
-use Rattle.neat.specs.Whole.{no_part}
+use Rattle.neat.specs.declared.caches.Caches.{Caches}
+use Rattle.neat.specs.Whole.{no_part, as_state}
 use Rattle.neat.proofs.Arrays.{array_set}
 
 abbrev cores_of : List CorePart → ℕ → Core
@@ -24,16 +25,14 @@ cores_changed xs i c y h lt e = array_set as_core no_part xs i y (omega arith) �
 read_there : (xs : List CorePart) (i c : ℕ) (z : CorePart) → length xs ≡ 8 → c < 8 → i ≡ c → as_core (get_or xs i z) ≡ cores_of xs c
 read_there xs i c z h lt e = ap as_core (get_or_default xs i z no_part (omega arith)) ∙ ap (cores_of xs) e
 
-pub core_changed : (R : Core → Reply × Core) (xs : List CorePart) (ds : List (List ℕ)) (i c : ℕ) (y z : CorePart) (r : Reply) → length xs ≡ 8 → c < 8 → i ≡ c → (r, as_core y) ≡ R (as_core (get_or xs i z)) → ◌≡◌ {A = Reply × State} (r, record { cores = cores_of (set xs i y); llc = llc_of ds }) (at_core (record { cores = cores_of xs; llc = llc_of ds }) c (R (cores_of xs c)))
-core_changed R xs ds i c y z r h lt e f =
-    ap (λ (g : ℕ → Core). whole r g) (cores_changed xs i c y h lt e)
-    ∙ ap (at_core s c) (f ∙ ap R (read_there xs i c z h lt e))
+-- The part of core c becomes y by the rule R.
+pub core_changed : (R : Core → Reply × Core) (x : Caches) (i c : ℕ) (y z : CorePart) (r : Reply) → length x.cores ≡ 8 → c < 8 → i ≡ c → (r, as_core y) ≡ R (as_core (get_or x.cores i z)) → ◌≡◌ {A = Reply × State} (r, as_state (record { cores = set x.cores i y; llc = x.llc })) (at_core (as_state x) c (R ((as_state x).cores c)))
+core_changed R x i c y z r h lt e f =
+    ap (λ (g : ℕ → Core). whole r g) (cores_changed x.cores i c y h lt e)
+    ∙ ap (at_core (as_state x) c) (f ∙ ap R (read_there x.cores i c z h lt e))
   where
-    s : State
-    s = record { cores = cores_of xs; llc = llc_of ds }
-
     whole : Reply → (ℕ → Core) → Reply × State
-    whole q g = (q, record { cores = g; llc = llc_of ds })
+    whole q g = (q, record { cores = g; llc = llc_of x.llc })
 
 pub line_changed : (xs : List CorePart) (ds : List (List ℕ)) (i c j l : ℕ) (y z : CorePart) (e : List ℕ) (r : Reply) → length xs ≡ 8 → length ds ≡ 8 → c < 8 → l < 8 → i ≡ c → j ≡ l → (r, as_core y) ≡ message_moved ((as_core (get_or xs i z)).slot l).place c l (as_bytes (get_or ds j [])) (as_core (get_or xs i z)) → as_bytes e ≡ given ((as_core (get_or xs i z)).slot l).place (as_bytes (get_or ds j [])) → ◌≡◌ {A = Reply × State} (r, record { cores = cores_of (set xs i y); llc = llc_of (set ds j e) }) (line_move (record { cores = cores_of xs; llc = llc_of ds }) c l)
 line_changed xs ds i c j l y z e r h k lt in_line p q f g =

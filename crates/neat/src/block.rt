@@ -2,7 +2,7 @@
 
 ghost use Rattle.std.specs.Prelude.{◌≡◌, ◌%◌, ◌<◌};
 ghost use Rattle.neat_rules.specs.State.{dirty, clean, stored, merged};
-ghost use Rattle.neat.specs.Blocks.{as_bytes, as_bits, as_block};
+ghost use Rattle.neat.specs.Blocks.{as_bytes, as_block};
 
 use protocol::Offset;
 
@@ -11,14 +11,6 @@ use protocol::Offset;
 pub struct Block {
     bytes: [u8; 8],
     written: u8,
-}
-
-/// Whether the write bit of an offset is set.
-fn is_written(written: u8, offset: usize) -> bool
-    requires { offset < 8 }
-    ensures { result ≡ as_bits written offset }
-{
-    (written >> offset) % 2 == 1
 }
 
 impl Block {
@@ -56,17 +48,28 @@ impl Block {
         ensures sent { as_block result ≡ as_block self.old }
         ensures kept { as_block self.new ≡ clean (as_block self.old).bytes }
     {
-        let sent = *self;
+        let sent = Block {
+            bytes: self.bytes,
+            written: self.written,
+        };
         self.written = 0;
         sent
     }
 
+    /// Whether the write bit of an offset is set.
+    fn is_written(&self, offset: usize) -> bool
+        requires { offset < 8 }
+        ensures { result ≡ (as_block self.now).written offset }
+    {
+        (self.written >> offset) % 2 == 1
+    }
+
     /// Gives a line the bytes whose write bits are set.
-    pub fn merge_into(self, line: &mut [u8; 8])
-        ensures { as_bytes line.new ≡ merged (as_block self) (as_bytes line.old) }
+    pub fn merge_into(&self, line: &mut [u8; 8])
+        ensures { as_bytes line.new ≡ merged (as_block self.now) (as_bytes line.old) }
     {
         for (offset, byte) in self.bytes.iter().enumerate() {
-            if is_written(self.written, offset) {
+            if self.is_written(offset) {
                 line[offset] = *byte;
             }
         }

@@ -100,16 +100,19 @@ impl CorePart {
     pub fn store(&mut self, core: Core, address: Address, byte: u8) -> Reply
         ensures { (result, as_core self.new) ≡ store_rule core.number address.number byte (as_core self.old) }
     {
-        if self.slots[address.line().index()].line.is_some() {
-            self.write(address.line(), address.offset(), byte);
-            Reply::Ended(Ended::Stored {
-                core: core.into(),
-                address: address.into(),
-                byte,
-            })
-        } else {
-            self.wait_for(address, Activity::Storing(address, byte));
-            Reply::Waits
+        match &mut self.slots[address.line().index()].line {
+            Some(block) => {
+                block.write(address.offset(), byte);
+                Reply::Ended(Ended::Stored {
+                    core: core.into(),
+                    address: address.into(),
+                    byte,
+                })
+            }
+            None => {
+                self.wait_for(address, Activity::Storing(address, byte));
+                Reply::Waits
+            }
         }
     }
 
@@ -131,9 +134,7 @@ impl CorePart {
     {
         let mut commits = 0;
         for slot in self.slots.iter_mut() {
-            if send(slot) {
-                commits += 1;
-            }
+            commits += u8::from(send(slot));
         }
         self.closing = Closing::Close(commits);
         self.activity = Some(activity);
@@ -307,7 +308,11 @@ impl CorePart {
     pub fn is_quiet(&self) -> bool
         ensures { result ≡ quiet (as_core self.now) }
     {
-        !self.slots.iter().any(Slot::carries) && !self.close_carries()
+        let mut open = false;
+        for slot in &self.slots {
+            open |= slot.carries();
+        }
+        !open && !self.close_carries()
     }
 
     /// Moves the message about a line, of which the LLC has `shared`.
@@ -316,18 +321,20 @@ impl CorePart {
         ensures answer { (result, as_core self.new) ≡ message_moved ((as_core self.old).slot line.number).place core.number line.number (as_bytes shared.old) (as_core self.old) }
         ensures taken { as_bytes shared.new ≡ given ((as_core self.old).slot line.number).place (as_bytes shared.old) }
     {
-        let place = self.slots[line.index()].place;
-        match place {
+        match &self.slots[line.index()].place {
             None => Reply::Moved,
             Some(Message::GetLine) => self.get_line_moved(line, *shared),
-            Some(Message::Data(bytes)) => self.data_moved(core, line, bytes),
-            Some(Message::Put(write_back)) => {
-                write_back.merge_into(shared);
+            Some(Message::Data(bytes)) => {
+                let bytes = *bytes;
+                self.data_moved(core, line, bytes)
+            }
+            Some(Message::Put(block)) => {
+                block.merge_into(shared);
                 self.put_moved(line)
             }
             Some(Message::PutAck) => self.put_ack_moved(core, line),
-            Some(Message::Commit(write_back)) => {
-                write_back.merge_into(shared);
+            Some(Message::Commit(block)) => {
+                block.merge_into(shared);
                 self.commit_moved(line)
             }
         }

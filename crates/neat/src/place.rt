@@ -19,10 +19,10 @@ impl TryFrom<u8> for Place {
 
     /// The place of that number: 9c+l is of core c and line l, 9c+8 is the close place of core c.
     fn try_from(number: u8) -> Result<Place, Refusal> {
-        match (Core::try_from(number / 9), Line::try_from(number % 9)) {
-            (Ok(core), Ok(line)) => Ok(Place::Line(core, line)),
-            (Ok(core), Err(_)) => Ok(Place::Close(core)),
-            (Err(_), _) => Err(Refusal::PlaceNotOpen),
+        let core = Core::try_from(number / 9).map_err(|_| Refusal::PlaceNotOpen)?;
+        match Line::try_from(number % 9) {
+            Ok(line) => Ok(Place::Line(core, line)),
+            Err(_) => Ok(Place::Close(core)),
         }
     }
 }

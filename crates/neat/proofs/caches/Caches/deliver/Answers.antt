@@ -12,5 +12,5 @@ returns-in-Line c =
 
 pub returns-in-Close : goal.returns-in-Close
 returns-in-Close c =
-    core_changed (λ (x : Core). close_place_moved x.closing c.in-Close.core.number x) c.args.self.now.cores c.args.self.now.llc c.index-in-Close.result c.in-Close.core.number c.move_close.new.self c.index-self-index-in-Close.result c.move_close.result (omega arith) c.in-Close.core.in_range c.index-in-Close.ensures c.move_close.ensures
+    core_changed (λ (x : Core). close_place_moved x.closing c.in-Close.core.number x) c.args.self.now c.index-in-Close.result c.in-Close.core.number c.move_close.new.self c.index-self-index-in-Close.result c.move_close.result (omega arith) c.in-Close.core.in_range c.index-in-Close.ensures c.move_close.ensures
     ∙ sym (ap (moved_there (as_state c.args.self.now)) c.in-Close.is)

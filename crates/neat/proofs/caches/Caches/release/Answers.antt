@@ -4,4 +4,4 @@ use Rattle.neat.proofs.Whole.{core_changed}
 use Rattle.neat.proofs.caches.Caches.release.Goals as goal
 
 pub returns : goal.returns
-returns c = core_changed release c.args.self.now.cores c.args.self.now.llc c.index.result c.args.core.number c.release.new.self c.index-self-index.result c.release.result (omega arith) c.args.core.in_range c.index.ensures c.release.ensures
+returns c = core_changed release c.args.self.now c.index.result c.args.core.number c.release.new.self c.index-self-index.result c.release.result (omega arith) c.args.core.in_range c.index.ensures c.release.ensures

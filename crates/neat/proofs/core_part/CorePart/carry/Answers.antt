@@ -6,4 +6,4 @@ use Rattle.neat.proofs.core_part.CorePart.carry.Goals as goal
 
 pub returns : goal.returns
 returns c =
-    part_changed (λ (u : Slot). record { line = u.line; place = as_place c.args.place }) c.args.self.now.slots c.index.result c.args.line.number _ (as_closing c.args.self.now.closing) c.args.self.now.received (as_activity c.args.self.now.activity) (omega arith) c.args.line.in_range c.index.ensures refl
+    part_changed (λ (u : Slot). record { line = u.line; place = as_place c.args.place }) c.args.self.now c.index.result c.args.line.number _ (omega arith) c.args.line.in_range c.index.ensures refl

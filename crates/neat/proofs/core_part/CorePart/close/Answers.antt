@@ -1,23 +1,23 @@
-use Rattle.std.proofs.Common.{◌≡◌, ℕ, ◌+◌, ◌≤◌, Some, refl, sym, ap, ◌∙◌, subst, cond, arith}
+use Rattle.std.proofs.Common.{◌≡◌, ℕ, ◌+◌, ◌≤◌, Bool, true, false, Some, refl, sym, ap, ◌∙◌, subst, if◌then◌else◌, arith}
+use Rattle.std.specs.Int.{from_bool}
 use Rattle.neat_rules.specs.State.{Slot, Close, total}
 use Rattle.neat_rules.specs.Rules.{commits_of}
 use Rattle.neat.specs.Parts.{as_slots, as_activity}
 use Rattle.neat.proofs.Parts.{both}
 use Rattle.neat.proofs.Sending.{none_sent, sent_more, all_sent}
 use Rattle.neat.proofs.core_part.CorePart.close.Goals as goal
-use Rattle.neat.proofs.core_part.CorePart.close.Goals.{then-send, else-send}
+
+one_if : (r : Bool) (n : ℕ) → n ≡ from_bool r → (n ≡ (if r then 1 else 0)) × (n ≤ 1)
+one_if true n e = (e, omega arith)
+one_if false n e = (e, omega arith)
 
 pub loop-slot-init : goal.loop-slot-init
 loop-slot-init g c = (λ rule h. none_sent rule c.args.self.now.slots, omega arith)
 
 pub loop-slot-preserved : goal.loop-slot-preserved
 loop-slot-preserved g c =
-    let counted : c.if-send.commits ≡ c.loop-slot.commits + cond c.send.result 1 0 = elim c.if-send.branch [
-      | then-send w ↦ let one : ◌≡◌ {A = ℕ} (cond c.send.result 1 0) 1 = ap (λ r. cond r 1 0) w.if-send.true in omega arith
-      | else-send w ↦ let none : ◌≡◌ {A = ℕ} (cond c.send.result 1 0) 0 = ap (λ r. cond r 1 0) w.if-send.false in omega arith
-    ] in
-    let few : c.if-send.commits ≤ c.loop-slot.slot-index + 1 = elim c.if-send.branch [ then-send w ↦ omega arith | else-send w ↦ omega arith ] in
-    (λ rule h. sent_more rule c.args.self.now.slots c.loop-slot.slot-items c.loop-slot.slot-index c.loop-slot.commits c.if-send.commits (cond c.send.result 1 0) _ _ (c.loop-slot.invariant.0 rule h) c.loop-slot-test.true (omega (arith, (c.loop-slot.invariant.0 rule h).same)) (h.slot _ _ _ c.send.ensures) (h.commit _ _ _ c.send.ensures) counted, few)
+    let one = one_if c.send.result c.from-commits.result c.from-commits.ensures in
+    (λ rule h. sent_more rule c.args.self.now.slots c.loop-slot.slot-items c.loop-slot.slot-index c.loop-slot.commits (c.loop-slot.commits + c.from-commits.result) c.from-commits.result _ _ (c.loop-slot.invariant.0 rule h) c.loop-slot-test.true (omega (arith, (c.loop-slot.invariant.0 rule h).same)) (h.slot _ _ _ c.send.ensures) (one.0 ∙ h.commit _ _ _ c.send.ensures) refl, omega arith)
 
 pub returns : goal.returns
 returns g c rule h =

@@ -7,4 +7,4 @@ use Rattle.neat.proofs.core_part.CorePart.write.Goals as goal
 
 pub returns : goal.returns
 returns c =
-    part_changed (λ (u : Slot). record { line = written_in u.line c.args.offset.number c.args.byte; place = u.place }) c.args.self.now.slots c.index.result c.args.line.number c.write.new.self (as_closing c.args.self.now.closing) c.args.self.now.received (as_activity c.args.self.now.activity) (omega arith) c.args.line.in_range c.index.ensures c.write.ensures
+    part_changed (λ (u : Slot). record { line = written_in u.line c.args.offset.number c.args.byte; place = u.place }) c.args.self.now c.index.result c.args.line.number c.write.new.self (omega arith) c.args.line.in_range c.index.ensures c.write.ensures
