@@ -15,22 +15,13 @@ use Rattle.neat.specs.Places.{located, place_at}
 use Rattle.neat.specs.Whole.{open_there, moved_there}
 use Rattle.neat.proofs.Steps.{accepted}
 
-core_part : Result (ℕ × ℕ) Refusal → ℕ
-core_part (Err e) = 0
-core_part (Ok p) = p.0
-
-line_part : Result (ℕ × ℕ) Refusal → ℕ
-line_part (Err e) = 0
-line_part (Ok p) = p.1
-
 -- A located place is one of the 72, and has the core and the line of its number.
 placed : (n x y : ℕ) → ◌≡◌ {A = Result (ℕ × ℕ) Refusal} (Ok (x, y)) (place_at n) → (ltb n 72 ≡ true) × (x ≡ n / 9) × (y ≡ n % 9)
-unfolding core_part line_part
 placed n x y h = go (ltb n 72) h
   where
     go : (t : Bool) → ◌≡◌ {A = Result (ℕ × ℕ) Refusal} (Ok (x, y)) (cond t (Ok (n / 9, n % 9)) (Err PlaceNotOpen)) → (t ≡ true) × (x ≡ n / 9) × (y ≡ n % 9)
-    go true h = (refl, ap core_part h, ap line_part h)
-    go false h = let z : ◌≡◌ {A = ℕ} 0 1 = cc in absurd (omega arith)
+    go true h = let e : ◌≡◌ {A = ℕ × ℕ} (x, y) (n / 9, n % 9) = cc in (refl, ap (λ p. p.0) e, ap (λ p. p.1) e)
+    go false h = absurd cc
 
 open_placed : (s : State) (p : Place) (n : ℕ) → located (Ok p) ≡ place_at n → open_in s n ≡ open_there s p
 open_placed s (Line c l) n h =

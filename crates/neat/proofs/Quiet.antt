@@ -3,22 +3,16 @@ use Rattle.std.proofs.Common.{◌≡◌, ℕ, zero, suc, ◌+◌, ◌/◌, ◌%�
 use Rattle.std.proofs.lemmas.Bool.{cases_eq, eq-eqb, ne_eqb, cond-true, cond-false, cases_Bool, or_parts, and_parts, not-true}
 use Rattle.neat_rules.specs.State.{State, some_below}
 use Rattle.neat_rules.specs.Reading.{carries, close_carries, open_in, next_open}
+use Rattle.neat_rules.proofs.Tables.{none_below}
 use Rattle.neat.specs.Parts.{quiet}
 use Rattle.neat.proofs.Opening.{search_more}
-
--- Where nothing below n passes, nothing at i does.
-none_below : (n : ℕ) (f : ℕ → Bool) → some_below n f ≡ false → (i : ℕ) → i < n → f i ≡ false
-none_below zero f h i l = absurd (omega arith)
-none_below (suc n) f h i l =
-    let p = or_parts (some_below n f) (f n) h in
-    ⊎_elim (λ (e : i ≡ n). ap f e ∙ p.1) (λ (e : i ≡ n → ⊥). none_below n f p.0 i (omega arith)) (cases_eq i n)
 
 -- A place of a quiet core is not open.
 shut_there : (s : State) (p : ℕ) → quiet (s.cores (p / 9)) ≡ true → open_in s p ≡ false
 shut_there s p q =
     let x = s.cores (p / 9) in
-    let lines = not-true (some_below 8 (λ l. carries (x.slot l).place)) (and_parts _ _ q).0 in
-    let close = not-true (close_carries x.closing) (and_parts _ _ q).1 in
+    let lines : some_below 8 (λ l. carries (x.slot l).place) ≡ false = not-true (some_below 8 (λ l. carries (x.slot l).place)) (and_parts _ _ q).0 in
+    let close : close_carries x.closing ≡ false = not-true (close_carries x.closing) (and_parts _ _ q).1 in
     let inner : cond (eqb (p % 9) 8) (close_carries x.closing) (carries (x.slot (p % 9)).place) ≡ false =
     ⊎_elim
     (λ (e : p % 9 ≡ 8). cond-true (eqb (p % 9) 8) _ _ (eq-eqb (p % 9) 8 e) ∙ close)

@@ -40,7 +40,7 @@ named : (b n x : ℕ) (e : Refusal) → Ok x ≡ cond (leb b n) (Err e) (Ok n) �
 named b n x e h = go (leb b n) h
   where
     go : (t : Bool) → Ok x ≡ cond t (Err e) (Ok n) → (t ≡ false) × (x ≡ n)
-    go true h = let z : ◌≡◌ {A = ℕ} 0 1 = cc in absurd (omega arith)
+    go true h = absurd cc
     go false h = (refl, cc)
 
 -- What a call names is there, and has the number that was given.
@@ -52,7 +52,7 @@ pub core_free : (c : ℕ) (o : Option Refusal) → None ≡ cond (leb 8 c) (Some
 core_free c o h = go (leb 8 c) h
   where
     go : (t : Bool) → None ≡ cond t (Some NoSuchCore) o → (t ≡ false) × (o ≡ None)
-    go true h = let z : ◌≡◌ {A = ℕ} 0 1 = cc in absurd (omega arith)
+    go true h = absurd cc
     go false h = (refl, sym h)
 
 -- The same where the call names something that is there.

@@ -23,9 +23,8 @@ impl Caches {
     pub fn new() -> Caches
         ensures { as_state result ≡ start }
     {
-        let core = CorePart::new();
         Caches {
-            cores: [core; 8],
+            cores: [CorePart::new(); 8],
             llc: [[0; 8]; 8],
         }
     }
@@ -36,6 +35,8 @@ impl Caches {
     {
         self.cores[core.index()].waits()
     }
+
+    // One method for each call, and none that lends a core's part: after a loan each caller had to say what the whole has become.
 
     pub fn load(&mut self, core: Core, address: Address) -> Reply
         ensures { (result, as_state self.new) ≡ at_core (as_state self.old) core.number (load_rule core.number address.number ((as_state self.old).cores core.number)) }

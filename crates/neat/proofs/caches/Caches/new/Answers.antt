@@ -9,5 +9,5 @@ use Rattle.neat.proofs.caches.Caches.new.Goals as goal
 
 pub returns : goal.returns
 returns c =
-    ap₂ (λ (f : ℕ → Core) (g : ℕ → ℕ → ℕ). record { cores = f; llc = g }) (fun_ext (all_same as_core c.new-core.result no_part no_core c.new-core.ensures refl 8))
+    ap₂ (λ (f : ℕ → Core) (g : ℕ → ℕ → ℕ). record { cores = f; llc = g }) (fun_ext (all_same as_core c.new.result no_part no_core c.new.ensures refl 8))
     (fun_ext (all_same as_bytes (replicate 8 0) [] (λ (o : ℕ). 0) (fun_ext (all_same (λ (y : ℕ). y) 0 0 0 refl refl 8)) refl 8))
