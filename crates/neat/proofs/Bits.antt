@@ -1,12 +1,11 @@
 -- The mask of write bits.
-use Rattle.std.proofs.Common.{◌≡◌, ℕ, zero, suc, ◌+◌, ◌-◌, ◌*◌, ◌/◌, ◌%◌, ◌^◌, ◌<◌, Bool, true, false, cond, not, eqb, ◌⊎◌, sym, refl, ap, ◌∙◌, subst, inl, inr, pow-suc, arith}
+use Rattle.std.proofs.Common.{◌≡◌, ℕ, zero, suc, ◌+◌, ◌-◌, ◌/◌, ◌%◌, ◌^◌, ◌<◌, Bool, true, false, cond, eqb, ◌⊎◌, sym, refl, ap, ◌∙◌, subst, inl, inr, pow-suc, arith}
 use mathlib.Core.Path.{fun_ext}
-use native.Mathlib.Nat.{div-eq_of_lt, zero-div, div_self, mul-mod_left}
+use native.Mathlib.Nat.{div-eq_of_lt, div_self, mul-mod_left}
 use lib.Bits.{bit_or}
-use Rattle.std.proofs.lemmas.Nat.{or_shr, or_mod, pow_pos, pow-add, pow_below, shl-shr, shr-shr}
+use Rattle.std.proofs.lemmas.Nat.{or_shr, or_mod, pow_pos, pow-add, pow_below, shl-shr}
 use Rattle.std.proofs.lemmas.Bool.{eqb-true, eqb-false, cases_order}
-use Rattle.neat_rules.specs.State.{with_at, some_below}
-use Rattle.neat_rules.proofs.Tables.{none_below}
+use Rattle.neat_rules.specs.State.{with_at}
 use Rattle.neat.specs.Blocks.{as_bits}
 
 -- The bit p of 2 ^ o.

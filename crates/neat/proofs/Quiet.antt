@@ -1,6 +1,6 @@
 -- The search for an open place skips the nine places of a core of which none carries a message.
 use Rattle.std.proofs.Common.{◌≡◌, ℕ, zero, suc, ◌+◌, ◌/◌, ◌%◌, ◌<◌, ◌≤◌, Bool, true, false, cond, ◌||◌, eqb, ltb, sym, ap, ◌∙◌, subst, ap₂, ⊎_elim, add-zero, add-one, arith}
-use Rattle.std.proofs.lemmas.Bool.{cases_eq, eq-eqb, ne_eqb, cond-true, cond-false, cases_Bool, or_parts, and_parts, not-true}
+use Rattle.std.proofs.lemmas.Bool.{cases_eq, eq-eqb, ne_eqb, cond-true, cond-false, cases_Bool, and_parts, not-true}
 use Rattle.neat_rules.specs.State.{State, some_below}
 use Rattle.neat_rules.specs.Reading.{carries, close_carries, open_in, next_open}
 use Rattle.neat_rules.proofs.Tables.{none_below}

@@ -1,6 +1,6 @@
 -- Messages, slots and cores' parts of the code, read as those of the rules. These readings are no models of the types: a model's value
 -- is data, and the rules' parts are functions of the line and the offset.
-use Rattle.std.specs.Prelude.{◌≡◌, ℕ, Bool, if◌then◌else◌, true, false, not, ◌&&◌, List, [], Some, None, Option, slice_index_or}
+use Rattle.std.specs.Prelude.{◌≡◌, ℕ, Bool, if◌then◌else◌, true, false, not, ◌&&◌, List, Some, None, Option, slice_index_or}
 use Rattle.std.specs.Borrow.{MutBor}
 use Rattle.neat_rules.specs.State.{Block, Line, Place, Empty, Closing, Activity, Slot, Core}
 use Rattle.neat_rules.specs.State as rules

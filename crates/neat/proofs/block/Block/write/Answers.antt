@@ -1,7 +1,7 @@
-use Rattle.std.proofs.Common.{◌≡◌, ℕ, ◌*◌, ◌%◌, ◌^◌, ◌<◌, Bool, true, false, cond, List, length, set, refl, ap, ◌∙◌, ap₂, arith}
+use Rattle.std.proofs.Common.{◌≡◌, ℕ, ◌*◌, ◌%◌, ◌^◌, ◌<◌, Bool, List, length, set, ap, ◌∙◌, ap₂, arith}
 use lib.Bits.{bit_or}
 use Rattle.std.proofs.lemmas.Nat.{one_shl}
-use Rattle.neat_rules.specs.State.{Block, stored}
+use Rattle.neat_rules.specs.State.{stored}
 use Rattle.neat.specs.Blocks.{block_of}
 use Rattle.neat.proofs.Arrays.{array_set}
 use Rattle.neat.proofs.Bits.{bits_set}

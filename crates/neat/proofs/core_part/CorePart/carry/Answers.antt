@@ -1,6 +1,6 @@
 use Rattle.std.proofs.Common.{refl, arith}
 use Rattle.neat_rules.specs.State.{Slot}
-use Rattle.neat.specs.Parts.{as_closing, as_activity, as_place}
+use Rattle.neat.specs.Parts.{as_place}
 use Rattle.neat.proofs.Parts.{part_changed}
 use Rattle.neat.proofs.core_part.CorePart.carry.Goals as goal
 

@@ -1,4 +1,4 @@
-use Rattle.std.proofs.Common.{◌≡◌, ℕ, ◌+◌, ◌≤◌, Bool, true, false, Some, refl, sym, ap, ◌∙◌, subst, if◌then◌else◌, arith}
+use Rattle.std.proofs.Common.{◌≡◌, ℕ, ◌+◌, ◌≤◌, Bool, true, false, Some, refl, ap, ◌∙◌, subst, if◌then◌else◌, arith}
 use Rattle.std.specs.Int.{from_bool}
 use Rattle.neat_rules.specs.State.{Slot, Close, total}
 use Rattle.neat_rules.specs.Rules.{commits_of}

@@ -1,4 +1,4 @@
-use Rattle.std.proofs.Common.{◌≡◌, ℕ, Some, sym, refl, ap, ◌∙◌, ap₂}
+use Rattle.std.proofs.Common.{◌≡◌, ℕ, Some, sym, ap, ◌∙◌, ap₂}
 use Rattle.protocol.specs.Cells.{offset_of}
 use Rattle.protocol.specs.declared.steps.Ended.TheVariants.{Stored}
 use Rattle.protocol.specs.declared.steps.Reply.TheVariants.{Finished}

@@ -3,7 +3,6 @@ use Rattle.protocol.specs.declared.steps.Ended.TheVariants.{Evicted}
 use Rattle.protocol.specs.declared.steps.Reply.TheVariants.{Ended as AtOnce}
 use Rattle.neat_rules.specs.State.{Slot, Put}
 use Rattle.neat_rules.specs.Rules.{emptied}
-use Rattle.neat.specs.Parts.{as_closing, as_activity}
 use Rattle.neat.proofs.Parts.{part_changed, both}
 use Rattle.neat.proofs.core_part.CorePart.evict.Goals as goal
 

@@ -1,7 +1,7 @@
 -- Each turn adds the place of its line.
-use Rattle.std.proofs.Common.{◌≡◌, ℕ, false, not, ◌&&◌, get_or, sym, ap, ◌∙◌, subst, arith}
+use Rattle.std.proofs.Common.{◌≡◌, ℕ, false, not, ◌&&◌, sym, ap, ◌∙◌, subst, arith}
 use Rattle.std.proofs.lemmas.List.{get_or_default}
-use Rattle.neat_rules.specs.State.{some_below, Slot}
+use Rattle.neat_rules.specs.State.{some_below}
 use Rattle.neat_rules.specs.Reading.{carries, close_carries}
 use Rattle.neat.specs.Parts.{as_slot, as_slots, as_closing, no_slot}
 use Rattle.neat.proofs.Quiet.{some_more}

@@ -1,7 +1,6 @@
 use Rattle.std.proofs.Common.{arith}
 use Rattle.neat_rules.specs.State.{Slot}
 use Rattle.neat.specs.Lines.{written_in}
-use Rattle.neat.specs.Parts.{as_closing, as_activity}
 use Rattle.neat.proofs.Parts.{part_changed}
 use Rattle.neat.proofs.core_part.CorePart.write.Goals as goal
 

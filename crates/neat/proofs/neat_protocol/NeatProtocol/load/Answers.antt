@@ -1,4 +1,3 @@
-use Rattle.std.proofs.Common.{◌≡◌}
 use Rattle.protocol.specs.declared.steps.Step.TheVariants.{Load}
 use Rattle.protocol.specs.declared.steps.Refusal.TheVariants.{NoSuchAddress}
 use Rattle.neat.specs.Whole.{as_state}
