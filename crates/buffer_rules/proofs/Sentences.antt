@@ -1,5 +1,5 @@
 -- The rules once more, a sentence each, as a program that follows them needs them.
-use Rattle.std.proofs.Common.{◌≡◌, ℕ, ◌<◌, ◌≤◌, Bool, cond, List, [], ◌∷◌, Some, None, Option, sym, refl, subst}
+use Rattle.std.proofs.Common.{◌≡◌, ℕ, ◌<◌, ◌≤◌, Bool, cond, List, [], ◌∷◌, length, Some, None, Option, sym, refl, ◌∙◌, subst}
 use Rattle.std.proofs.lemmas.Bool.{lt-ltb, le-ltb}
 use Rattle.protocol.specs.declared.steps.Step.{Step}
 use Rattle.protocol.specs.declared.steps.Step.TheVariants.{Load, Store, Acquire, Release, Evict, Move}
@@ -10,9 +10,9 @@ use Rattle.protocol.specs.declared.steps.Reply.{Reply}
 use Rattle.protocol.specs.declared.steps.Reply.TheVariants.{Refused, Waits, Ended as AtOnce, Moved, Finished}
 use Rattle.protocol.specs.Steps.{caller, core_of}
 use Rattle.buffer_rules.specs.declared.entries.Entry.{Entry}
-use Rattle.buffer_rules.specs.Entries.{found, replaced}
+use Rattle.buffer_rules.specs.Entries.{capacity, found, replaced, added}
 use Rattle.buffer_rules.specs.Scripts.{Script, done, call, after, Runs, ends, calls}
-use Rattle.buffer_rules.specs.Rules.{Buffer, Work, waiting, straight, once_ended, store_oldest, load, load_by, store, store_by, store_new, release, moved, in_move, release_on, goes_on, put, of_core, unless, turned_down, core_call, after_move, ended_below}
+use Rattle.buffer_rules.specs.Rules.{Buffer, Work, waiting, stops, straight, once_ended, store_oldest, load, load_by, store, store_by, store_new, release, moved, in_move, release_on, goes_on, put, of_core, unless, turned_down, core_call, after_move, ended_below}
 
 -- The reply is no ended call.
 abbrev pub NotEnded : Reply → Type 0
@@ -62,6 +62,27 @@ module _ {S : Type 0} (steps : S → Step → Reply → S → Type 0) where
 
   pub oldest_stops : (c : ℕ) (k : Step) (e : Entry) (es : List Entry) (go_on : Work) (r : Reply) (s t : S) (x : Reply × Buffer) → steps s (Store c e.address e.byte) r t → NotEnded r → x ≡ (r, record { entries = e ∷ es; pending = waiting k r }) → Runs steps (store_oldest c k e es go_on) s x t
   oldest_stops c k e es go_on r s t x h n i = subst (λ (y : Reply × Buffer). Runs steps (store_oldest c k e es go_on) s y t) (sym i) (calls h (not_ended k (e ∷ es) go_on r n))
+
+  -- A store to an address without entry takes a free entry; or all are taken, and the oldest entry's store ends, or stops it.
+  pub store_free : (c a b : ℕ) (es : List Entry) (s : S) (x : Reply × Buffer) → length es < capacity → x ≡ (AtOnce (Stored c a b), record { entries = added a b es; pending = None }) → Runs steps (store_new c a b es) s x s
+  store_free c a b [] s x l e = is_done (AtOnce (Stored c a b), record { entries = added a b []; pending = None }) x e
+  store_free c a b (y ∷ ys) s x l e =
+      subst (λ (z : Bool). Runs steps (cond z (stops (Store c a b) (added a b (y ∷ ys)) (AtOnce (Stored c a b))) (store_oldest c (Store c a b) y ys (stops (Store c a b) (added a b ys) (AtOnce (Stored c a b))))) s x s)
+      (sym (lt-ltb (length (y ∷ ys)) 4 l)) (is_done (AtOnce (Stored c a b), record { entries = added a b (y ∷ ys); pending = None }) x e)
+
+  store_taken : (c a b : ℕ) (e : Entry) (xs es : List Entry) {s t : S} {x : Reply × Buffer} → es ≡ e ∷ xs → capacity ≤ length es → Runs steps (store_oldest c (Store c a b) e xs (stops (Store c a b) (added a b xs) (AtOnce (Stored c a b)))) s x t → Runs steps (store_new c a b es) s x t
+  store_taken c a b e xs es {s} {t} {x} i l h =
+      subst (λ (z : List Entry). Runs steps (store_new c a b z) s x t) (sym i)
+      (subst (λ (z : Bool). Runs steps (cond z (stops (Store c a b) (added a b (e ∷ xs)) (AtOnce (Stored c a b))) (store_oldest c (Store c a b) e xs (stops (Store c a b) (added a b xs) (AtOnce (Stored c a b))))) s x t)
+      (sym (le-ltb (length (e ∷ xs)) 4 (subst (λ (z : List Entry). 4 ≤ length z) i l))) h)
+
+  pub store_full : (c a b : ℕ) (e : Entry) (xs es : List Entry) (y : Ended) (s t : S) (x : Reply × Buffer) → es ≡ e ∷ xs → capacity ≤ length es → steps s (Store c e.address e.byte) (AtOnce y) t → x ≡ (AtOnce (Stored c a b), record { entries = added a b xs; pending = None }) → Runs steps (store_new c a b es) s x t
+  store_full c a b e xs es y s t x i l h j =
+      store_taken c a b e xs es i l (oldest_ended c (Store c a b) e xs (stops (Store c a b) (added a b xs) (AtOnce (Stored c a b))) y s t t x h (is_done (AtOnce (Stored c a b), record { entries = added a b xs; pending = None }) x j))
+
+  pub store_stops : (c a b : ℕ) (e : Entry) (xs es : List Entry) (r : Reply) (s t : S) (x : Reply × Buffer) → es ≡ e ∷ xs → capacity ≤ length es → steps s (Store c e.address e.byte) r t → NotEnded r → x ≡ (r, record { entries = es; pending = waiting (Store c a b) r }) → Runs steps (store_new c a b es) s x t
+  store_stops c a b e xs es r s t x i l h n j =
+      store_taken c a b e xs es i l (oldest_stops c (Store c a b) e xs (stops (Store c a b) (added a b xs) (AtOnce (Stored c a b))) r s t x h n (j ∙ (λ k. (r, record { entries = i k; pending = waiting (Store c a b) r }))))
 
   -- A release with an oldest entry, and one with none.
   pub release_oldest : (c : ℕ) (e : Entry) (xs es : List Entry) (y : Ended) (s t u : S) (x : Reply × Buffer) → es ≡ e ∷ xs → steps s (Store c e.address e.byte) (AtOnce y) t → Runs steps (release c xs) t x u → Runs steps (release c es) s x u

@@ -1,38 +1,71 @@
 -- One core's buffer in the array is one core's buffer in the rules.
-use Rattle.std.proofs.Common.{◌≡◌, ℕ, ◌<◌, ◌⊎◌, List, length, get_or, set, None, sym, ap, ◌∙◌, subst, inl, inr}
-use Rattle.std.proofs.lemmas.Bool.{cases_eq}
-use Rattle.std.proofs.lemmas.List.{get_or-set_same, get_or-set_other}
+use Rattle.std.proofs.Common.{◌≡◌, ℕ, ◌<◌, ◌≤◌, ◌⊎◌, Bool, true, false, cond, nat_le, List, length, get_or, set, Some, None, Ok, Err, Option, Result, sym, refl, ap, ◌∙◌, subst, inl, inr}
+use Rattle.std.proofs.lemmas.Bool.{cases_eq, cases_lt}
+use Rattle.std.specs.Array.{AllOfLen}
+use Rattle.std.proofs.lemmas.List.{get_or-set_same, get_or-set_other, get_or_default, get_or_past}
+use Rattle.protocol.specs.Cells.{numbered, address_named, line_named}
+use Rattle.protocol.specs.Meaning.{busy}
+use Rattle.protocol.specs.declared.cells.Address.{Address}
+use Rattle.protocol.specs.declared.cells.Line.{Line}
+use Rattle.protocol.specs.declared.steps.Refusal.TheVariants.{NoSuchCore, NoSuchAddress}
+use Rattle.protocol.specs.declared.steps.Refusal.{Refusal}
 use Rattle.protocol.specs.declared.steps.Step.{Step}
-use Rattle.protocol.specs.declared.steps.Step.TheVariants.{Move}
+use Rattle.protocol.specs.declared.steps.Step.TheVariants.{Load, Evict, Move}
 use Rattle.protocol.specs.declared.steps.Ended.{Ended}
 use Rattle.protocol.specs.declared.steps.Reply.{Reply}
 use Rattle.protocol.specs.declared.steps.Reply.TheVariants.{Finished}
 use Rattle.protocol.specs.Steps.{caller, core_of}
 use Rattle.buffer_rules.specs.declared.entries.Entry.{Entry}
 use Rattle.buffer_rules.specs.Scripts.{Runs, call}
-use Rattle.buffer_rules.specs.Rules.{Work, put, turned_down, core_call, after_move, ended_below}
+use Rattle.buffer_rules.specs.Buffered.{empty}
+use Rattle.buffer_rules.specs.Rules.{Buffer, Work, put, turned_down, core_call, after_move, ended_below}
 use Rattle.buffer_rules.proofs.Sentences.{call_works, move_goes_on}
 use Rattle.buffer_rules.proofs.Views.{put_here, put_other}
-use Rattle.store_buffer.specs.declared.work.CoreBuffer.{CoreBuffer}
-use Rattle.store_buffer.specs.Held.{entries_of, buffer_of, bare_buffer, buffers_of}
+use Rattle.store_buffer.specs.Held.{buffers_of, unless_named, turned_down_by}
 
-pub buffers_set : (bs : List CoreBuffer) (i : ℕ) (b : CoreBuffer) → i < length bs → buffers_of (set bs i b) ≡ put (buffers_of bs) i (buffer_of b)
+pub buffers_set : (bs : List Buffer) (i : ℕ) (b : Buffer) → i < length bs → buffers_of (set bs i b) ≡ put (buffers_of bs) i b
 buffers_set bs i b l = λ j d. each d (cases_eq d i) j
   where
-    each : (d : ℕ) → (d ≡ i) ⊎ (d ≡ i → ⊥) → buffers_of (set bs i b) d ≡ put (buffers_of bs) i (buffer_of b) d
-    each d (inl e) = subst (λ (x : ℕ). buffers_of (set bs i b) x ≡ put (buffers_of bs) i (buffer_of b) x) (sym e) (ap buffer_of (get_or-set_same bs i b bare_buffer l) ∙ sym (put_here (buffers_of bs) i (buffer_of b)))
-    each d (inr n) = ap buffer_of (get_or-set_other bs i d b bare_buffer n) ∙ sym (put_other (buffers_of bs) i (buffer_of b) d n)
+    each : (d : ℕ) → (d ≡ i) ⊎ (d ≡ i → ⊥) → buffers_of (set bs i b) d ≡ put (buffers_of bs) i b d
+    each d (inl e) = subst (λ (x : ℕ). buffers_of (set bs i b) x ≡ put (buffers_of bs) i b x) (sym e) (get_or-set_same bs i b empty l ∙ sym (put_here (buffers_of bs) i b))
+    each d (inr n) = get_or-set_other bs i d b empty n ∙ sym (put_other (buffers_of bs) i b d n)
 
-module _ {S : Type 0} (steps : S → Step → Reply → S → Type 0) (bs : List CoreBuffer) (i j n : ℕ) (b : CoreBuffer) where
-  -- A core's work on its buffer, read at i and written back at j, both the number n of the core.
-  pub call_in : (k : Step) (work : List Entry → Work) (s t : S) (r : Reply) → turned_down (buffers_of bs) k ≡ None → i ≡ n → j ≡ n → n ≡ caller k → j < length bs → Runs steps (work (entries_of (get_or bs i bare_buffer).queue)) s (r, buffer_of b) t → Runs steps (core_call (buffers_of bs) k work) s (r, buffers_of (set bs j b)) t
-  call_in k work s t r h ei ej en l w =
-      call_works steps (buffers_of bs) (buffers_of (set bs j b)) k work s t r (buffer_of b) h (subst (λ (x : ℕ). Runs steps (work (buffers_of bs x).entries) s (r, buffer_of b) t) (ei ∙ en) w)
-      (buffers_set bs j b l ∙ ap (λ (x : ℕ). put (buffers_of bs) x (buffer_of b)) (ej ∙ en))
+-- The refusal of what a call names beside its core, as the table has it.
+refused_by : {X : Type 0} (f : X → ℕ) (r : Result X Refusal) (n a : ℕ) (e : Refusal) (later : Option Refusal) → numbered f r ≡ cond (nat_le n a) (Err e) (Ok a) → cond (nat_le n a) (Some e) later ≡ unless_named r later
+refused_by {X} f r n a e later h = go r (nat_le n a) h
+  where
+    go : (r : Result X Refusal) (t : Bool) → numbered f r ≡ cond t (Err e) (Ok a) → cond t (Some e) later ≡ unless_named r later
+    go (Ok x) true k = cc
+    go (Ok x) false k = refl
+    go (Err d) true k = cc
+    go (Err d) false k = cc
+
+pub at_address : (bs : ℕ → Buffer) (c a : ℕ) (r : Result Address Refusal) → numbered (λ x. x.number) r ≡ address_named a → turned_down bs (Load c a) ≡ turned_down_by r bs c
+at_address bs c a r h = ap (λ (o : Option Refusal). cond (nat_le 8 c) (Some NoSuchCore) o) (refused_by (λ x. x.number) r 64 a NoSuchAddress (busy (bs c).pending) h)
+
+pub at_line : (bs : ℕ → Buffer) (c l : ℕ) (r : Result Line Refusal) → numbered (λ x. x.number) r ≡ line_named l → turned_down bs (Evict c l) ≡ turned_down_by r bs c
+at_line bs c l r h = ap (λ (o : Option Refusal). cond (nat_le 8 c) (Some NoSuchCore) o) (refused_by (λ x. x.number) r 8 l NoSuchAddress (busy (bs c).pending) h)
+
+-- Eight buffers as they are made.
+pub all_empty : (bs : List Buffer) → AllOfLen (λ b. b ≡ empty) bs 8 → buffers_of bs ≡ (λ c. empty)
+all_empty bs h = λ i c. each c (cases_lt c 8) i
+  where
+    each : (c : ℕ) → (c < 8) ⊎ (8 ≤ c) → buffers_of bs c ≡ empty
+    each c (inl l) = h.at c empty l
+    each c (inr l) = get_or_past bs c empty (subst (λ (n : ℕ). n ≤ c) (sym h.long) l)
+
+module _ {S : Type 0} (steps : S → Step → Reply → S → Type 0) (bs : List Buffer) (i n : ℕ) (d b : Buffer) where
+  -- The work of a core on its buffer, which stands at i, the number n of the core.
+  pub call_in : (k : Step) (work : List Entry → Work) (s t : S) (r : Reply) → turned_down (buffers_of bs) k ≡ None → i ≡ n → n ≡ caller k → i < length bs → Runs steps (work (get_or bs i d).entries) s (r, b) t → Runs steps (core_call (buffers_of bs) k work) s (r, buffers_of (set bs i b)) t
+  call_in k work s t r h ei en l w =
+      call_works steps (buffers_of bs) (buffers_of (set bs i b)) k work s t r b h (subst (λ (x : ℕ). Runs steps (work (buffers_of bs x).entries) s (r, b) t) (ei ∙ en)
+      (subst (λ (x : Buffer). Runs steps (work x.entries) s (r, b) t) (get_or_default bs i d empty l) w))
+      (buffers_set bs i b l ∙ ap (λ (x : ℕ). put (buffers_of bs) x b) (ei ∙ en))
 
   -- The same of a waiting call that goes on with a move.
-  pub move_in : (p : ℕ) (s t u : S) (e : Ended) (r : Reply) → steps s (Move p) (Finished e) t → i ≡ n → j ≡ n → n ≡ core_of e → n < 8 → j < length bs → Runs steps (ended_below e (buffer_of (get_or bs i bare_buffer)) (get_or bs i bare_buffer).pending) t (r, buffer_of b) u → Runs steps (call (Move p) (after_move (buffers_of bs))) s (r, buffers_of (set bs j b)) u
-  move_in p s t u e r h ei ej en lc l w =
-      move_goes_on steps (buffers_of bs) (buffers_of (set bs j b)) p s t u e r (buffer_of b) h (subst (λ (x : ℕ). x < 8) en lc)
-      (subst (λ (x : ℕ). Runs steps (ended_below e (buffers_of bs x) (buffers_of bs x).pending) t (r, buffer_of b) u) (ei ∙ en) w)
-      (buffers_set bs j b l ∙ ap (λ (x : ℕ). put (buffers_of bs) x (buffer_of b)) (ej ∙ en))
+  pub move_in : (p : ℕ) (s t u : S) (e : Ended) (r : Reply) → steps s (Move p) (Finished e) t → i ≡ n → n ≡ core_of e → n < 8 → i < length bs → Runs steps (ended_below e (get_or bs i d) (get_or bs i d).pending) t (r, b) u → Runs steps (call (Move p) (after_move (buffers_of bs))) s (r, buffers_of (set bs i b)) u
+  move_in p s t u e r h ei en lc l w =
+      move_goes_on steps (buffers_of bs) (buffers_of (set bs i b)) p s t u e r b h (subst (λ (x : ℕ). x < 8) en lc)
+      (subst (λ (x : ℕ). Runs steps (ended_below e (buffers_of bs x) (buffers_of bs x).pending) t (r, b) u) (ei ∙ en)
+      (subst (λ (x : Buffer). Runs steps (ended_below e x x.pending) t (r, b) u) (get_or_default bs i d empty l) w))
+      (buffers_set bs i b l ∙ ap (λ (x : ℕ). put (buffers_of bs) x b) (ei ∙ en))

@@ -1,4 +1,4 @@
 mod Admitted
 mod Answered
 mod Cores
-mod Parted
+mod Places

@@ -2,9 +2,8 @@
 #![tactic(auto)]
 
 mod buffer;
-mod queue;
+mod core_buffer;
 mod stack;
-mod work;
 
 pub use buffer::StoreBuffer;
 pub use stack::stacked;

@@ -1,5 +1,5 @@
 -- Refused as tabled, or the core's work.
-use Rattle.std.proofs.Common.{◌<◌, length, arith}
+use Rattle.std.proofs.Common.{◌<◌, length, ◌∙◌, arith}
 use Rattle.protocol.specs.declared.steps.Step.TheVariants.{Release}
 use Rattle.buffer_rules.specs.Rules.{release}
 use Rattle.buffer_rules.proofs.Sentences.{call_refused}
@@ -12,6 +12,6 @@ returns-in-Err g c = call_refused g.P.Protocol.machine.steps _ (Release c.args.c
 
 pub returns-in-Ok : goal.returns-in-Ok
 returns-in-Ok g c =
-    let l : c.index-in-Ok.result < length c.args.self.now.buffers = omega arith in
+    let l : c.index.result < length c.args.self.now.buffers = omega arith in
     let a = admitted_ok _ _ _ c.in-Ok.ensures in
-    call_in g.P.Protocol.machine.steps c.args.self.now.buffers c.index.result c.index-in-Ok.result c.in-Ok.caller.number c.release-reply.new.buffer (Release c.args.core) (release c.args.core) _ _ _ a.0 c.index.ensures c.index-in-Ok.ensures a.1 l c.release-reply.ensures
+    call_in g.P.Protocol.machine.steps c.args.self.now.buffers c.index.result c.in-Ok.caller.number _ _ (Release c.args.core) (release c.args.core) _ _ _ (a.0) c.index.ensures a.1 l c.release.ensures
