@@ -126,14 +126,14 @@ module _ {S : Type 0} (steps : S → Step → Reply → S → Type 0) where
   pub one_waits : (e : Ended) (b : Buffer) (w : Option Step) (k : Step) (s t : S) (x : Reply × Buffer) → w ≡ Some k → Runs steps (goes_on e b.entries k) s x t → Runs steps (ended_below e b w) s x t
   one_waits e b w k s t x i h = subst (λ (z : Option Step). Runs steps (ended_below e b z) s x t) (sym i) h
 
-  -- A core call among the buffers of all cores: refused, or its core's work.
-  pub call_refused : (bs : ℕ → Buffer) (k : Step) (work : List Entry → Work) (s : S) (e : Refusal) → turned_down bs k ≡ Some e → Runs steps (core_call bs k work) s (Refused e, bs) s
-  call_refused bs k work s e h = subst (λ (o : Option Refusal). Runs steps (unless o bs (of_core bs (caller k) (work (bs (caller k)).entries))) s (Refused e, bs) s) (sym h) ends
+  -- A call of core c among the buffers of all cores: refused, or that core's work.
+  pub call_refused : (bs : ℕ → Buffer) (o : Option Refusal) (c : ℕ) (work : List Entry → Work) (s : S) (e : Refusal) → o ≡ Some e → Runs steps (unless o bs (of_core bs c (work (bs c).entries))) s (Refused e, bs) s
+  call_refused bs o c work s e h = subst (λ (o : Option Refusal). Runs steps (unless o bs (of_core bs c (work (bs c).entries))) s (Refused e, bs) s) (sym h) ends
 
-  pub call_works : (bs new : ℕ → Buffer) (k : Step) (work : List Entry → Work) (s t : S) (r : Reply) (b : Buffer) → turned_down bs k ≡ None → Runs steps (work (bs (caller k)).entries) s (r, b) t → new ≡ put bs (caller k) b → Runs steps (core_call bs k work) s (r, new) t
-  call_works bs new k work s t r b h w i =
-      subst (λ (o : Option Refusal). Runs steps (unless o bs (of_core bs (caller k) (work (bs (caller k)).entries))) s (r, new) t) (sym h)
-      (subst (λ (z : ℕ → Buffer). Runs steps (of_core bs (caller k) (work (bs (caller k)).entries)) s (r, z) t) (sym i) (runs_after (λ x. (x.0, put bs (caller k) x.1)) w))
+  pub call_works : (bs new : ℕ → Buffer) (o : Option Refusal) (c : ℕ) (work : List Entry → Work) (s t : S) (r : Reply) (b : Buffer) → o ≡ None → Runs steps (work (bs c).entries) s (r, b) t → new ≡ put bs c b → Runs steps (unless o bs (of_core bs c (work (bs c).entries))) s (r, new) t
+  call_works bs new o c work s t r b h w i =
+      subst (λ (o : Option Refusal). Runs steps (unless o bs (of_core bs c (work (bs c).entries))) s (r, new) t) (sym h)
+      (subst (λ (z : ℕ → Buffer). Runs steps (of_core bs c (work (bs c).entries)) s (r, z) t) (sym i) (runs_after (λ x. (x.0, put bs c x.1)) w))
 
   -- A move that has ended no call, one that has ended a call of no core, and one after which a core's call goes on.
   pub move_passes : (bs : ℕ → Buffer) (p : ℕ) (s t : S) (r : Reply) → steps s (Move p) r t → ((e : Ended) → r ≡ Finished e → ⊥) → Runs steps (call (Move p) (after_move bs)) s (r, bs) t

@@ -5,6 +5,3 @@ use Rattle.buffer_rules.specs.Rules.{Buffer}
 
 pub answered : {r r' : Reply} {b b' : Buffer} → r ≡ r' → b ≡ b' → ◌≡◌ {A = Reply × Buffer} (r, b) (r', b')
 answered p q = λ i. (p i, q i)
-
-pub replied : {r r' : Reply} {b : Buffer} → r ≡ r' → ◌≡◌ {A = Reply × Buffer} (r, b) (r', b)
-replied {b = b} p = λ j. (p j, b)

@@ -1,4 +1,3 @@
-mod Admitted
 mod Answered
 mod Cores
 mod Places

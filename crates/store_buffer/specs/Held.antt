@@ -4,8 +4,11 @@ use Rattle.protocol.specs.declared.steps.Refusal.{Refusal}
 use Rattle.protocol.specs.declared.steps.Refusal.TheVariants.{NoSuchCore}
 use Rattle.protocol.specs.declared.steps.Reply.{Reply}
 use Rattle.protocol.specs.Meaning.{Machine, busy}
+use Rattle.std.specs.Fn.{Once}
+use Rattle.std.specs.Borrow.{MutBor}
+use Rattle.buffer_rules.specs.declared.entries.Entry.{Entry}
 use Rattle.buffer_rules.specs.Scripts.{Runs}
-use Rattle.buffer_rules.specs.Rules.{Buffer, Work}
+use Rattle.buffer_rules.specs.Rules.{Buffer, Work, Round, unless, of_core}
 use Rattle.buffer_rules.specs.Buffered.{Pile, empty}
 
 -- The buffer of each core.
@@ -20,11 +23,6 @@ pile s bs = record { below = s; buffers = buffers_of bs }
 abbrev pub Does : (M : Machine) → Work → M.State → Reply → Buffer → M.State → Type 0
 Does M w s r b t = Runs M.steps w s (r, b) t
 
--- The core of that number, or the refusal.
-abbrev pub admitted : Option Refusal → ℕ → Result ℕ Refusal
-admitted None c = Ok c
-admitted (Some e) c = Err e
-
 -- The refusal of what a call names, or of a core that waits.
 abbrev pub unless_named : {X : Type 0} → Result X Refusal → Option Refusal → Option Refusal
 unless_named (Ok x) later = later
@@ -33,3 +31,12 @@ unless_named (Err e) later = Some e
 -- The refusal of a call of core c that names the address or the line x too: the core, then x, then waiting.
 abbrev pub turned_down_by : {X : Type 0} → Result X Refusal → (ℕ → Buffer) → ℕ → Option Refusal
 turned_down_by x bs c = cond (nat_le 8 c) (Some NoSuchCore) (unless_named x (busy (bs c).pending))
+
+-- The work f does what the rule says, whatever protocol state and buffer it is given.
+abbrev pub Follows : (M : Machine) {P F : Type 0} → (P → M.State) → Once F (MutBor Buffer × (MutBor P × Unit {0})) (Reply × (MutBor Buffer × (MutBor P × Unit {0}))) → F → (List Entry → Work) → Type 0
+Follows M {P} state g f rule =
+    (b b' : MutBor Buffer) (s s' : MutBor P) (r : Reply) → g.post f (b, (s, tt)) (r, (b', (s', tt))) → Does M (rule b.now.entries) (state s.now) r b'.now (state s'.now)
+
+-- A call of core c by that rule, unless it is refused.
+abbrev pub call_of_core : Option Refusal → ℕ → (List Entry → Work) → (ℕ → Buffer) → Round
+call_of_core refusal c rule bs = unless refusal bs (of_core bs c (rule (bs c).entries))

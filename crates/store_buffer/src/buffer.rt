@@ -1,9 +1,11 @@
 //! The store buffer: each core's buffer, and the protocol below.
 
-ghost use Rattle.std.specs.Prelude.{◌≡◌};
-ghost use Rattle.protocol.specs.Cells.{numbered};
+ghost use Rattle.std.specs.Prelude.{◌≡◌, List, Some, None as Nothing, IfOk, IfErr};
 ghost use Rattle.buffer_rules.specs.Buffered.{buffered, AgainByFunction};
-ghost use Rattle.store_buffer.specs.Held.{buffers_of, pile, admitted, turned_down_by};
+ghost use Rattle.store_buffer.specs.Held.{buffers_of, pile, turned_down_by, Follows, call_of_core};
+ghost use Rattle.buffer_rules.specs.declared.entries.Entry.{Entry};
+ghost use Rattle.buffer_rules.specs.Scripts.{Runs};
+ghost use Rattle.buffer_rules.specs.Rules.{Work};
 ghost use Rattle.buffer_rules.proofs.Keeps.{buffered_keeps};
 
 use crate::core_buffer::CoreBuffer;
@@ -22,7 +24,8 @@ fn admit<T: Drop>(
     core: u8,
     named: Result<T, Refusal>,
 ) -> Result<Core, Refusal>
-    ensures { numbered (λ x. x.number) result ≡ admitted (turned_down_by named (buffers_of buffers.now) core) core }
+    ensures ok { IfOk result (λ x. (turned_down_by named (buffers_of buffers.now) core ≡ Nothing) × (x.number ≡ core)) }
+    ensures err { IfErr result (λ e. turned_down_by named (buffers_of buffers.now) core ≡ Some e) }
 {
     let core = Core::try_from(core)?;
     let _ = named?;
@@ -34,6 +37,7 @@ fn admit<T: Drop>(
 
 impl<P: Protocol> StoreBuffer<P> {
     /// The buffer over a protocol, both cleared. Over a protocol whose answers are a function of its state, so are the buffer's.
+    #[tactic(auto, using(crate::proofs::Cores::all_empty, buffer_rules::proofs::ByFunction::buffered_by_function))]
     pub fn new(below: P) -> StoreBuffer<P>
         ensures fresh { (buffered P.machine).fresh (pile (P.state result.below) result.buffers) }
         ensures functional { AgainByFunction P.machine }
@@ -45,6 +49,22 @@ impl<P: Protocol> StoreBuffer<P> {
             buffers: Default::default(),
         }
     }
+
+    /// A core's call: it is refused, or it is that work on the core's buffer and on the protocol below.
+    fn call<T: Drop, F: FnOnce(&mut CoreBuffer, &mut P) -> Reply>(
+        &mut self,
+        core: u8,
+        named: Result<T, Refusal>,
+        work: F,
+    ) -> Reply
+        requires { F.IsAlwaysCallable work }
+        ensures { (rule : List Entry → Work) → Follows P.machine P.state F.FnOnce work rule → Runs P.machine.steps (call_of_core (turned_down_by named (buffers_of self.old.buffers) core) core rule (buffers_of self.old.buffers)) (P.state self.old.below) (result, buffers_of self.new.buffers) (P.state self.new.below) }
+    {
+        match admit(&self.buffers, core, named) {
+            Ok(caller) => work(&mut self.buffers[caller.index()], &mut self.below),
+            Err(refusal) => Reply::Refused(refusal),
+        }
+    }
 }
 
 impl<P: Protocol> Protocol for StoreBuffer<P> {
@@ -54,50 +74,38 @@ impl<P: Protocol> Protocol for StoreBuffer<P> {
 
     ghost keeps = { buffered_keeps P.machine P.keeps };
 
+    #[tactic(auto, using(crate::proofs::Cores::all_empty))]
     fn clear(&mut self) {
         self.below.clear();
         self.buffers = Default::default();
     }
 
     fn load(&mut self, core: u8, address: u8) -> Reply {
-        match admit(&self.buffers, core, Address::try_from(address)) {
-            Ok(caller) => self.buffers[caller.index()].load(&mut self.below, core, address),
-            Err(refusal) => Reply::Refused(refusal),
-        }
+        self.call(core, Address::try_from(address), |buffer, below| {
+            buffer.load(below, core, address)
+        })
     }
 
     fn store(&mut self, core: u8, address: u8, byte: u8) -> Reply {
-        match admit(&self.buffers, core, Address::try_from(address)) {
-            Ok(caller) => self.buffers[caller.index()].store(&mut self.below, core, address, byte),
-            Err(refusal) => Reply::Refused(refusal),
-        }
+        self.call(core, Address::try_from(address), |buffer, below| {
+            buffer.store(below, core, address, byte)
+        })
     }
 
     fn acquire(&mut self, core: u8) -> Reply {
-        match admit(&self.buffers, core, Ok(())) {
-            Ok(caller) => {
-                let reply = self.below.acquire(core);
-                self.buffers[caller.index()].stop(Step::Acquire { core }, reply)
-            }
-            Err(refusal) => Reply::Refused(refusal),
-        }
+        self.call(core, Ok(()), |buffer, below| {
+            buffer.stop(Step::Acquire { core }, below.acquire(core))
+        })
     }
 
     fn release(&mut self, core: u8) -> Reply {
-        match admit(&self.buffers, core, Ok(())) {
-            Ok(caller) => self.buffers[caller.index()].release(&mut self.below, core),
-            Err(refusal) => Reply::Refused(refusal),
-        }
+        self.call(core, Ok(()), |buffer, below| buffer.release(below, core))
     }
 
     fn evict(&mut self, core: u8, line: u8) -> Reply {
-        match admit(&self.buffers, core, Line::try_from(line)) {
-            Ok(caller) => {
-                let reply = self.below.evict(core, line);
-                self.buffers[caller.index()].stop(Step::Evict { core, line }, reply)
-            }
-            Err(refusal) => Reply::Refused(refusal),
-        }
+        self.call(core, Line::try_from(line), |buffer, below| {
+            buffer.stop(Step::Evict { core, line }, below.evict(core, line))
+        })
     }
 
     fn move_message(&mut self, place: u8) -> Reply {

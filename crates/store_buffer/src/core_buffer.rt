@@ -47,6 +47,7 @@ impl Default for CoreBuffer {
 }
 
 /// What a move answers that has made a waiting call go on.
+// No From: this takes a reply to a reply.
 fn in_move(reply: Reply) -> Reply
     ensures { result ≡ moved reply }
 {
@@ -57,6 +58,8 @@ fn in_move(reply: Reply) -> Reply
     }
 }
 
+// The protocol below and the core stay arguments: a struct that holds `&mut` to the buffer and to below has to promise in each
+// method that both are the same references afterwards.
 impl CoreBuffer {
     /// Whether the core waits for a call.
     pub fn waits(&self) -> bool
@@ -154,13 +157,7 @@ impl CoreBuffer {
     }
 
     /// A store to an entry's address replaces its byte in position.
-    pub fn store<P: Protocol>(
-        &mut self,
-        below: &mut P,
-        core: u8,
-        address: u8,
-        byte: u8,
-    ) -> Reply
+    pub fn store<P: Protocol>(&mut self, below: &mut P, core: u8, address: u8, byte: u8) -> Reply
         ensures { Does P.machine (store_rule core address byte self.old.entries) (P.state below.old) result self.new (P.state below.new) }
     {
         let entry = Entry { address, byte };

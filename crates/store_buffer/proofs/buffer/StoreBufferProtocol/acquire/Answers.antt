@@ -1,18 +1,9 @@
--- Refused as tabled, or the core's work.
-use Rattle.std.proofs.Common.{◌<◌, length, ◌∙◌, arith}
+use Rattle.std.proofs.Common.{rules}
 use Rattle.protocol.specs.declared.steps.Step.TheVariants.{Acquire}
 use Rattle.buffer_rules.specs.Rules.{straight}
-use Rattle.buffer_rules.proofs.Sentences.{call_refused, straight_below}
-use Rattle.store_buffer.proofs.Admitted.{admitted_ok, admitted_err}
+use Rattle.buffer_rules.proofs.Sentences.{straight_below}
 use Rattle.store_buffer.proofs.Answered.{answered}
-use Rattle.store_buffer.proofs.Cores.{call_in}
 use Rattle.store_buffer.proofs.buffer.StoreBufferProtocol.acquire.Goals as goal
 
-pub returns-in-Err : goal.returns-in-Err
-returns-in-Err g c = call_refused g.P.Protocol.machine.steps _ (Acquire c.args.core) (straight (Acquire c.args.core)) _ _ (admitted_err _ _ _ c.in-Err.ensures)
-
-pub returns-in-Ok : goal.returns-in-Ok
-returns-in-Ok g c =
-    let l : c.index.result < length c.args.self.now.buffers = omega arith in
-    let a = admitted_ok _ _ _ c.in-Ok.ensures in
-    call_in g.P.Protocol.machine.steps c.args.self.now.buffers c.index.result c.in-Ok.caller.number _ _ (Acquire c.args.core) (straight (Acquire c.args.core)) _ _ _ (a.0) c.index.ensures a.1 l (straight_below g.P.Protocol.machine.steps _ _ _ _ _ _ c.acquire-reply.ensures (answered c.stop.ensures.answer c.stop.ensures.left))
+pub returns : goal.returns
+returns g c = c.call.ensures (straight (Acquire c.args.core)) (λ b b' s s' r h. search (rules, straight_below g.P.Protocol.machine.steps, answered))

@@ -1,17 +1,6 @@
--- Refused as tabled, or the core's work.
-use Rattle.std.proofs.Common.{◌<◌, length, ◌∙◌, arith}
-use Rattle.protocol.specs.declared.steps.Step.TheVariants.{Release}
+use Rattle.std.proofs.Common.{rules}
 use Rattle.buffer_rules.specs.Rules.{release}
-use Rattle.buffer_rules.proofs.Sentences.{call_refused}
-use Rattle.store_buffer.proofs.Admitted.{admitted_ok, admitted_err}
-use Rattle.store_buffer.proofs.Cores.{call_in}
 use Rattle.store_buffer.proofs.buffer.StoreBufferProtocol.release.Goals as goal
 
-pub returns-in-Err : goal.returns-in-Err
-returns-in-Err g c = call_refused g.P.Protocol.machine.steps _ (Release c.args.core) (release c.args.core) _ _ (admitted_err _ _ _ c.in-Err.ensures)
-
-pub returns-in-Ok : goal.returns-in-Ok
-returns-in-Ok g c =
-    let l : c.index.result < length c.args.self.now.buffers = omega arith in
-    let a = admitted_ok _ _ _ c.in-Ok.ensures in
-    call_in g.P.Protocol.machine.steps c.args.self.now.buffers c.index.result c.in-Ok.caller.number _ _ (Release c.args.core) (release c.args.core) _ _ _ (a.0) c.index.ensures a.1 l c.release.ensures
+pub returns : goal.returns
+returns g c = c.call.ensures (release c.args.core) (λ b b' s s' r h. search rules)

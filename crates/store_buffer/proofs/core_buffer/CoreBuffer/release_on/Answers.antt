@@ -4,7 +4,7 @@ use Rattle.arrayvec.specs.ArrayVec.{ArrayVec}
 use Rattle.buffer_rules.specs.declared.entries.Entry.{Entry}
 use Rattle.buffer_rules.specs.Rules.{Buffer}
 use Rattle.buffer_rules.proofs.Sentences.{release_ended, release_further}
-use Rattle.store_buffer.proofs.Answered.{answered, replied}
+use Rattle.store_buffer.proofs.Answered.{answered}
 use Rattle.store_buffer.proofs.Places.{oldest, none_left}
 use Rattle.store_buffer.proofs.core_buffer.CoreBuffer.release_on.Goals as goal
 
@@ -16,4 +16,4 @@ returns-in-None g c =
 
 pub returns-in-Some : goal.returns-in-Some
 returns-in-Some g c =
-    release_further g.P.Protocol.machine.steps _ _ _ _ _ _ _ _ _ _ (oldest _ _ _ _ _ refl (ap (λ (b : Buffer). b.entries) c.self.view_is) c.in-Some.ensures.value c.in-Some.ensures.items) c.release.ensures (replied c.in_move.ensures)
+    release_further g.P.Protocol.machine.steps _ _ _ _ _ _ _ _ _ _ (oldest _ _ _ _ _ refl (ap (λ (b : Buffer). b.entries) c.self.view_is) c.in-Some.ensures.value c.in-Some.ensures.items) c.release.ensures (answered c.in_move.ensures refl)
