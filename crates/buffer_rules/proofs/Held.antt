@@ -9,9 +9,6 @@ abbrev pub Sound : List Entry → Type 0
 Sound [] = Unit {0}
 Sound (e ∷ es) = (e.address < 64) × (e.byte < 256) × (found e.address es ≡ None) × (Sound es)
 
-pub none_some : {X : Type 0} {x : X} → ◌≡◌ {A = Option X} None (Some x) → ⊥
-none_some {X} {x} h = let z : ◌≡◌ {A = ℕ} 0 1 = cc in omega arith
-
 -- The first entry's address, or another.
 pub found_here : (a : ℕ) (e : Entry) (es : List Entry) → e.address ≡ a → found a (e ∷ es) ≡ Some e.byte
 found_here a e es h = ap (λ (t : Bool). cond t (Some e.byte) (found a es)) (eq-eqb e.address a h)
@@ -24,11 +21,11 @@ pub found_none : (a : ℕ) (e : Entry) (es : List Entry) → found a (e ∷ es) 
 found_none a e es h = go (eqb e.address a) refl h
   where
     go : (t : Bool) → eqb e.address a ≡ t → cond t (Some e.byte) (found a es) ≡ None → (e.address ≡ a → ⊥) × (found a es ≡ None)
-    go true q h = absurd (none_some (sym h))
+    go true q h = cc
     go false q h = (eqb-false e.address a q, h)
 
 pub found_byte : (a b : ℕ) (es : List Entry) → Sound es → found a es ≡ Some b → b < 256
-found_byte a b [] s h = absurd (none_some h)
+found_byte a b [] s h = cc
 found_byte a b (e ∷ es) s h = go (eqb e.address a) (found_byte a b es s.3) h
   where
     go : (t : Bool) → (found a es ≡ Some b → b < 256) → cond t (Some e.byte) (found a es) ≡ Some b → b < 256
@@ -37,7 +34,7 @@ found_byte a b (e ∷ es) s h = go (eqb e.address a) (found_byte a b es s.3) h
 
 -- An entry that is replaced.
 pub found_replaced : (a b : ℕ) (es : List Entry) (y : ℕ) → found a es ≡ Some y → found a (replaced a b es) ≡ Some b
-found_replaced a b [] y h = absurd (none_some h)
+found_replaced a b [] y h = cc
 found_replaced a b (e ∷ es) y h = go (eqb e.address a) refl (found_replaced a b es y) h
   where
     go : (t : Bool) → eqb e.address a ≡ t → (found a es ≡ Some y → found a (replaced a b es) ≡ Some b) → cond t (Some e.byte) (found a es) ≡ Some y → found a (cond t (entry a b ∷ es) (e ∷ replaced a b es)) ≡ Some b

@@ -17,7 +17,7 @@ use Rattle.buffer_rules.specs.Scripts.{Script}
 use Rattle.buffer_rules.specs.Rules.{Buffer, Work, put, of_core, unless, turned_down, after_move, core_call, step_of, ended_below, load, store, release, straight}
 use Rattle.buffer_rules.specs.Buffered.{Pile, seen, moment_over, calls_left, total, buffered}
 use Rattle.buffer_rules.proofs.Always.{Always, always_runs, always_after, always_so}
-use Rattle.buffer_rules.proofs.Held.{Sound, none_some, found_byte}
+use Rattle.buffer_rules.proofs.Held.{Sound, found_byte}
 use Rattle.buffer_rules.proofs.Sums.{total_changed}
 use Rattle.buffer_rules.proofs.Views.{Around, put_here, put_other, over_drifts}
 use Rattle.buffer_rules.proofs.Waiting.{CoreSound, call_below, none_below, core_passed, place_passed, own_call}
@@ -181,7 +181,7 @@ module _ (M : Machine) (mean : Meaning M) where
       go (Some e) h =
           record {
             refused = λ x g. (let z : e ≡ x = cc in ap Refused z, refl);
-            accepted = λ g. absurd (none_some (sym g ∙ tab ∙ h));
+            accepted = λ g. absurd (cc);
             again = i;
             reach = refl;
           }
@@ -190,7 +190,7 @@ module _ (M : Machine) (mean : Meaning M) where
           (always_so M.steps (work (p.buffers (caller k)).entries) p.below
           (λ x t w.
           record {
-            refused = λ e g. absurd (none_some (sym h ∙ sym tab ∙ g));
+            refused = λ e g. absurd (cc);
             accepted = λ g. as_call (above p) (above (with_buffer p (caller k) x.1 t)) x.0 (lift_call p k n x.0 x.1 t (ready h).0 (ready h).1 l w);
             again = inv_put p (caller k) x.1 t i w.reached w.others w.sound;
             reach = ap (λ (R : ℕ). 5 * R + 5) w.reach;
@@ -208,12 +208,12 @@ module _ (M : Machine) (mean : Meaning M) where
       freed = record { reached = ru; core = f.core; reach = re; others = f.waiting.elsewhere; free = f.waiting.there; falls = f.falls }
 
       go : (w : Option Step) → (p.buffers (core_of e)).pending ≡ w → CoreSound (core_of e) (p.buffers (core_of e)).entries w ((M.moment p.below).waits (core_of e)) → Always M.steps (ended_below e (p.buffers (core_of e)) w) u (λ x t. Keeps p (Move q) (x.0, put p.buffers (core_of e) x.1) t)
-      go None h s = absurd (none_some (sym s.same ∙ f.waited))
+      go None h s = absurd (cc)
       go (Some k) h s =
           always_so M.steps (ended_below e (p.buffers (core_of e)) (Some k)) u
           (λ x t w.
           record {
-            refused = λ y z. absurd (none_some (sym g ∙ z));
+            refused = λ y z. absurd (cc);
             accepted = λ z. lift_move p (core_of e) k x.0 x.1 t f.core (own_call (core_of e) (p.buffers (core_of e)).entries k s.fine) h w;
             again = inv_put p (core_of e) x.1 t i w.reached w.others w.sound;
             reach = ap (λ (R : ℕ). 5 * R + 5) w.reach;
@@ -243,7 +243,7 @@ module _ (M : Machine) (mean : Meaning M) where
       by_reply (AtOnce x) g d = absurd d
       by_reply Moved g d =
           record {
-            refused = λ y z. absurd (none_some (sym g ∙ z));
+            refused = λ y z. absurd (cc);
             accepted = λ z.
                 record {
                   drifts = over_drifts (λ c. (p.buffers c).entries) d.drifts;
@@ -262,7 +262,7 @@ module _ (M : Machine) (mean : Meaning M) where
           (subst (λ (v : M.State). Kept p (Move q) (Refused x) (record { below = v; buffers = p.buffers })) (sym b.1)
           (record {
             refused = λ y z. (let k : x ≡ y = cc in ap Refused k, refl);
-            accepted = λ z. absurd (none_some (sym z ∙ h));
+            accepted = λ z. absurd (cc);
             again = i;
             reach = refl;
           }))

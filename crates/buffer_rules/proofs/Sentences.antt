@@ -8,11 +8,11 @@ use Rattle.protocol.specs.declared.steps.Ended.TheVariants.{Loaded, Stored}
 use Rattle.protocol.specs.declared.steps.Refusal.{Refusal}
 use Rattle.protocol.specs.declared.steps.Reply.{Reply}
 use Rattle.protocol.specs.declared.steps.Reply.TheVariants.{Refused, Waits, Ended as AtOnce, Moved, Finished}
-use Rattle.protocol.specs.Steps.{caller, core_of}
+use Rattle.protocol.specs.Steps.{core_of}
 use Rattle.buffer_rules.specs.declared.entries.Entry.{Entry}
 use Rattle.buffer_rules.specs.Entries.{capacity, found, replaced, added}
 use Rattle.buffer_rules.specs.Scripts.{Script, done, call, after, Runs, ends, calls}
-use Rattle.buffer_rules.specs.Rules.{Buffer, Work, waiting, stops, straight, once_ended, store_oldest, load, load_by, store, store_by, store_new, release, moved, in_move, release_on, goes_on, put, of_core, unless, turned_down, core_call, after_move, ended_below}
+use Rattle.buffer_rules.specs.Rules.{Buffer, Work, waiting, stops, straight, once_ended, store_oldest, load, load_by, store, store_by, store_new, release, moved, in_move, release_on, goes_on, put, of_core, unless, after_move, ended_below}
 
 -- The reply is no ended call.
 abbrev pub NotEnded : Reply → Type 0

@@ -40,7 +40,7 @@ drifts_on a (drift b d) = drift (drifts_on a b) d
 -- Nothing is owed over an entry's place that has no entry and no debt below.
 owed_below : (o : Option ℕ) (x : Bool) → owed o x ≡ false → (o ≡ None) × (x ≡ false)
 owed_below None x h = (refl, h)
-owed_below (Some b) x h = absurd (both_ways true h refl)
+owed_below (Some b) x h = cc
 
 owed_mono : (o : Option ℕ) (x y : Bool) → (x ≡ true → y ≡ true) → owed o x ≡ true → owed o y ≡ true
 owed_mono None x y i h = i h
@@ -158,7 +158,7 @@ straight_drifts {E = E} {w = w} h d = drift (over_drifts E d) (same_drift (same_
 
 acquired_sees : (o : Option ℕ) (y : Bool) (x z : ℕ) → (y ≡ false → x ≡ z) → owed o y ≡ false → seen o x ≡ z
 acquired_sees None y x z i h = i h
-acquired_sees (Some b) y x z i h = absurd (both_ways true h refl)
+acquired_sees (Some b) y x z i h = cc
 
 pub straight_brings : {c : ℕ} {q : List Entry} {E E' : ℕ → List Entry} (v w : View) (e : Ended) → Straight c q e → Around c q q E E' → Brings e v w → Brings e (seen_over E v) (seen_over E' w)
 straight_brings {c} {E' = E'} v w (Loaded d a b) s h m =

@@ -1,5 +1,5 @@
 -- What a core that waits above waits for below, and what its entries are then.
-use Rattle.std.proofs.Common.{◌≡◌, ℕ, ◌<◌, ◌≤◌, Bool, true, false, cond, leb, List, [], ◌∷◌, length, Some, None, Option, sym, refl, ap, ◌∙◌}
+use Rattle.std.proofs.Common.{◌≡◌, ℕ, ◌<◌, ◌≤◌, Bool, true, false, cond, leb, List, [], ◌∷◌, length, Some, None, Option, refl, ap, ◌∙◌}
 use Rattle.std.proofs.lemmas.Bool.{leb-false, lt-leb}
 use Rattle.protocol.specs.declared.steps.Step.{Step}
 use Rattle.protocol.specs.declared.steps.Step.TheVariants.{Load, Store, Acquire, Release, Evict, Move}
@@ -9,7 +9,7 @@ use Rattle.protocol.specs.Meaning.{busy}
 use Rattle.protocol.specs.Steps.{caller}
 use Rattle.buffer_rules.specs.declared.entries.Entry.{Entry}
 use Rattle.buffer_rules.specs.Entries.{found}
-use Rattle.buffer_rules.proofs.Held.{Sound, none_some}
+use Rattle.buffer_rules.proofs.Held.{Sound}
 
 -- The store of the oldest entry, or k where there is none.
 abbrev pub oldest_or : ℕ → Step → List Entry → Step
@@ -46,24 +46,24 @@ pub record CoreSound (c : ℕ) (q : List Entry) (w b : Option Step) : Type 0 whe
 -- A core waits above exactly if it waits below.
 pub none_below : (q : List Entry) (w : Option Step) → call_below q w ≡ None → w ≡ None
 none_below q None h = refl
-none_below q (Some (Load c a)) h = absurd (none_some (sym h))
-none_below q (Some (Store c a b)) h = absurd (none_some (sym h))
-none_below q (Some (Acquire c)) h = absurd (none_some (sym h))
-none_below q (Some (Release c)) h = absurd (none_some (sym h))
-none_below q (Some (Evict c l)) h = absurd (none_some (sym h))
-none_below q (Some (Move p)) h = absurd (none_some (sym h))
+none_below q (Some (Load c a)) h = cc
+none_below q (Some (Store c a b)) h = cc
+none_below q (Some (Acquire c)) h = cc
+none_below q (Some (Release c)) h = cc
+none_below q (Some (Evict c l)) h = cc
+none_below q (Some (Move p)) h = cc
 
 -- The table of refusals, test by test.
 passed : (n c : ℕ) (e : Refusal) (x : Option Refusal) → cond (leb n c) (Some e) x ≡ None → (c < n) × (x ≡ None)
 passed n c e x h = go (leb n c) refl h
   where
     go : (t : Bool) → leb n c ≡ t → cond t (Some e) x ≡ None → (c < n) × (x ≡ None)
-    go true q h = absurd (none_some (sym h))
+    go true q h = cc
     go false q h = (leb-false n c q, h)
 
 not_busy : (w : Option Step) → busy w ≡ None → w ≡ None
 not_busy None h = refl
-not_busy (Some k) h = absurd (none_some (sym h))
+not_busy (Some k) h = cc
 
 pub pass : (n c : ℕ) (e : Refusal) (x : Option Refusal) → c < n → x ≡ None → cond (leb n c) (Some e) x ≡ None
 pass n c e x l h = ap (λ (t : Bool). cond t (Some e) x) (lt-leb n c l) ∙ h
