@@ -1,5 +1,5 @@
 -- What the code's buffers hold, in the words of the rules.
-use Rattle.std.specs.Prelude.{ℕ, cond, List, Some, None, Ok, Err, Option, Result, slice_index_or, nat_le}
+use Rattle.std.specs.Prelude.{ℕ, cond, List, Some, Ok, Err, Option, Result, slice_index_or, nat_le}
 use Rattle.protocol.specs.declared.steps.Refusal.{Refusal}
 use Rattle.protocol.specs.declared.steps.Refusal.TheVariants.{NoSuchCore}
 use Rattle.protocol.specs.declared.steps.Reply.{Reply}

@@ -1,7 +1,7 @@
 -- Refused as tabled, or the core's work.
 use Rattle.std.proofs.Common.{◌<◌, length, arith}
 use Rattle.buffer_rules.proofs.Sentences.{call_refused}
-use Rattle.store_buffer.specs.Held.{buffers_of, turned_down_by}
+use Rattle.store_buffer.specs.Held.{buffers_of}
 use Rattle.store_buffer.proofs.Cores.{call_in}
 use Rattle.store_buffer.proofs.buffer.StoreBuffer.call.Goals as goal
 
