@@ -18,10 +18,10 @@ use Rattle.protocol.specs.Steps.{core_of}
 use Rattle.buffer_rules.specs.declared.entries.Entry.{Entry}
 use Rattle.buffer_rules.specs.Scripts.{Runs, call}
 use Rattle.buffer_rules.specs.Buffered.{empty}
-use Rattle.buffer_rules.specs.Rules.{Buffer, Work, put, core_call, after_move, ended_below}
+use Rattle.buffer_rules.specs.Rules.{Buffer, Work, put, unless, of_core, core_call, after_move, ended_below}
 use Rattle.buffer_rules.proofs.Sentences.{call_works, move_goes_on}
 use Rattle.buffer_rules.proofs.Views.{put_here, put_other}
-use Rattle.store_buffer.specs.Held.{buffers_of, unless_named, turned_down_by, call_of_core}
+use Rattle.store_buffer.specs.Held.{buffers_of, unless_named, call_of_core}
 
 pub buffers_set : (bs : List Buffer) (i : ℕ) (b : Buffer) → i < length bs → buffers_of (set bs i b) ≡ put (buffers_of bs) i b
 buffers_set bs i b l = λ j d. each d (cases_eq d i) j
@@ -40,17 +40,17 @@ refused_by {X} f r n a e later h = go r (nat_le n a) h
     go (Err d) true k = cc
     go (Err d) false k = cc
 
--- Eight buffers as they are made.
-pub all_empty : (bs : List Buffer) → AllOfLen (λ b. b ≡ empty) bs 8 → buffers_of bs ≡ (λ c. empty)
-all_empty bs h = λ i c. each c (cases_lt c 8) i
+-- Eight buffers that are each made empty.
+pub all_empty : {P : Buffer → Type 0} (bs : List Buffer) → AllOfLen P bs 8 → ((b : Buffer) → P b → b ≡ empty) → buffers_of bs ≡ (λ c. empty)
+all_empty bs h made = λ i c. each c (cases_lt c 8) i
   where
     each : (c : ℕ) → (c < 8) ⊎ (8 ≤ c) → buffers_of bs c ≡ empty
-    each c (inl l) = h.at c empty l
+    each c (inl l) = made _ (h.at c empty l)
     each c (inr l) = get_or_past bs c empty (subst (λ (n : ℕ). n ≤ c) (sym h.long) l)
 
 module _ {S : Type 0} (steps : S → Step → Reply → S → Type 0) (bs : List Buffer) (i n : ℕ) (d b : Buffer) where
   -- The work of a core on its buffer, which stands at i, the number n of the core.
-  pub call_in : (o : Option Refusal) (c : ℕ) (work : List Entry → Work) (s t : S) (r : Reply) → o ≡ None → i ≡ n → n ≡ c → i < length bs → Runs steps (work (get_or bs i d).entries) s (r, b) t → Runs steps (call_of_core o c work (buffers_of bs)) s (r, buffers_of (set bs i b)) t
+  pub call_in : (o : Option Refusal) (c : ℕ) (work : List Entry → Work) (s t : S) (r : Reply) → o ≡ None → i ≡ n → n ≡ c → i < length bs → Runs steps (work (get_or bs i d).entries) s (r, b) t → Runs steps (unless o (buffers_of bs) (of_core (buffers_of bs) c (work (buffers_of bs c).entries))) s (r, buffers_of (set bs i b)) t
   call_in o c work s t r h ei en l w =
       call_works steps (buffers_of bs) (buffers_of (set bs i b)) o c work s t r b h (subst (λ (x : ℕ). Runs steps (work (buffers_of bs x).entries) s (r, b) t) (ei ∙ en)
       (subst (λ (x : Buffer). Runs steps (work x.entries) s (r, b) t) (get_or_default bs i d empty l) w))
@@ -66,10 +66,10 @@ module _ {S : Type 0} (steps : S → Step → Reply → S → Type 0) (bs : List
 
 module _ {S : Type 0} (steps : S → Step → Reply → S → Type 0) (bs : ℕ → Buffer) (c : ℕ) (work : List Entry → Work) {s t : S} {x : Reply × (ℕ → Buffer)} where
   -- A call that names an address, and one that names a line.
-  pub at_address : (a : ℕ) (r : Result Address Refusal) → numbered (λ y. y.number) r ≡ address_named a → Runs steps (call_of_core (turned_down_by r bs c) c work bs) s x t → Runs steps (core_call bs (Load c a) work) s x t
+  pub at_address : (a : ℕ) (r : Result Address Refusal) → numbered (λ y. y.number) r ≡ address_named a → Runs steps (call_of_core r c work bs) s x t → Runs steps (core_call bs (Load c a) work) s x t
   at_address a r h =
-      subst (λ (o : Option Refusal). Runs steps (call_of_core (cond (nat_le 8 c) (Some NoSuchCore) o) c work bs) s x t) (sym (refused_by (λ y. y.number) r 64 a NoSuchAddress (busy (bs c).pending) h))
+      subst (λ (o : Option Refusal). Runs steps (unless (cond (nat_le 8 c) (Some NoSuchCore) o) bs (of_core bs c (work (bs c).entries))) s x t) (sym (refused_by (λ y. y.number) r 64 a NoSuchAddress (busy (bs c).pending) h))
 
-  pub at_line : (l : ℕ) (r : Result Line Refusal) → numbered (λ y. y.number) r ≡ line_named l → Runs steps (call_of_core (turned_down_by r bs c) c work bs) s x t → Runs steps (core_call bs (Evict c l) work) s x t
+  pub at_line : (l : ℕ) (r : Result Line Refusal) → numbered (λ y. y.number) r ≡ line_named l → Runs steps (call_of_core r c work bs) s x t → Runs steps (core_call bs (Evict c l) work) s x t
   at_line l r h =
-      subst (λ (o : Option Refusal). Runs steps (call_of_core (cond (nat_le 8 c) (Some NoSuchCore) o) c work bs) s x t) (sym (refused_by (λ y. y.number) r 8 l NoSuchAddress (busy (bs c).pending) h))
+      subst (λ (o : Option Refusal). Runs steps (unless (cond (nat_le 8 c) (Some NoSuchCore) o) bs (of_core bs c (work (bs c).entries))) s x t) (sym (refused_by (λ y. y.number) r 8 l NoSuchAddress (busy (bs c).pending) h))

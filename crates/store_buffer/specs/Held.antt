@@ -37,6 +37,6 @@ abbrev pub Follows : (M : Machine) {P F : Type 0} → (P → M.State) → Once F
 Follows M {P} state g f rule =
     (b b' : MutBor Buffer) (s s' : MutBor P) (r : Reply) → g.post f (b, (s, tt)) (r, (b', (s', tt))) → Does M (rule b.now.entries) (state s.now) r b'.now (state s'.now)
 
--- A call of core c by that rule, unless it is refused.
-abbrev pub call_of_core : Option Refusal → ℕ → (List Entry → Work) → (ℕ → Buffer) → Round
-call_of_core refusal c rule bs = unless refusal bs (of_core bs c (rule (bs c).entries))
+-- A call of core c that names x too, by that rule: refused as above, or the core's work.
+abbrev pub call_of_core : {X : Type 0} → Result X Refusal → ℕ → (List Entry → Work) → (ℕ → Buffer) → Round
+call_of_core x c rule bs = unless (turned_down_by x bs c) bs (of_core bs c (rule (bs c).entries))

@@ -1,7 +1,7 @@
 //! The store buffer: each core's buffer, and the protocol below.
 
 ghost use Rattle.std.specs.Prelude.{◌≡◌, List, Some, None as Nothing, IfOk, IfErr};
-ghost use Rattle.buffer_rules.specs.Buffered.{buffered, AgainByFunction};
+ghost use Rattle.buffer_rules.specs.Buffered.{empty, buffered, AgainByFunction};
 ghost use Rattle.store_buffer.specs.Held.{buffers_of, pile, turned_down_by, Follows, call_of_core};
 ghost use Rattle.buffer_rules.specs.declared.entries.Entry.{Entry};
 ghost use Rattle.buffer_rules.specs.Scripts.{Runs};
@@ -16,6 +16,13 @@ use protocol::{Address, Core, Line, Protocol, Refusal, Reply, Step};
 pub struct StoreBuffer<P> {
     below: P,
     buffers: [CoreBuffer; 8],
+}
+
+/// A buffer with no entry and no call to wait for, for each core.
+fn empty_buffers() -> [CoreBuffer; 8]
+    ensures { buffers_of result ≡ (λ c. empty) }
+{
+    Default::default()
 }
 
 /// The core of that number, unless what else its call names is refused or the core waits.
@@ -37,7 +44,7 @@ fn admit<T: Drop>(
 
 impl<P: Protocol> StoreBuffer<P> {
     /// The buffer over a protocol, both cleared. Over a protocol whose answers are a function of its state, so are the buffer's.
-    #[tactic(auto, using(crate::proofs::Cores::all_empty, buffer_rules::proofs::ByFunction::buffered_by_function))]
+    #[tactic(auto, using(buffer_rules::proofs::ByFunction::buffered_by_function))]
     pub fn new(below: P) -> StoreBuffer<P>
         ensures fresh { (buffered P.machine).fresh (pile (P.state result.below) result.buffers) }
         ensures functional { AgainByFunction P.machine }
@@ -46,7 +53,7 @@ impl<P: Protocol> StoreBuffer<P> {
         cleared.clear();
         StoreBuffer {
             below: cleared,
-            buffers: Default::default(),
+            buffers: empty_buffers(),
         }
     }
 
@@ -58,7 +65,8 @@ impl<P: Protocol> StoreBuffer<P> {
         work: F,
     ) -> Reply
         requires { F.IsAlwaysCallable work }
-        ensures { (rule : List Entry → Work) → Follows P.machine P.state F.FnOnce work rule → Runs P.machine.steps (call_of_core (turned_down_by named (buffers_of self.old.buffers) core) core rule (buffers_of self.old.buffers)) (P.state self.old.below) (result, buffers_of self.new.buffers) (P.state self.new.below) }
+        ensures { (rule : List Entry → Work) → Follows P.machine P.state F.FnOnce work rule
+            → Runs P.machine.steps (call_of_core named core rule (buffers_of self.old.buffers)) (P.state self.old.below) (result, buffers_of self.new.buffers) (P.state self.new.below) }
     {
         match admit(&self.buffers, core, named) {
             Ok(caller) => work(&mut self.buffers[caller.index()], &mut self.below),
@@ -74,10 +82,9 @@ impl<P: Protocol> Protocol for StoreBuffer<P> {
 
     ghost keeps = { buffered_keeps P.machine P.keeps };
 
-    #[tactic(auto, using(crate::proofs::Cores::all_empty))]
     fn clear(&mut self) {
         self.below.clear();
-        self.buffers = Default::default();
+        self.buffers = empty_buffers();
     }
 
     fn load(&mut self, core: u8, address: u8) -> Reply {

@@ -13,7 +13,7 @@ use protocol::{Ended, Protocol, Reply, Step};
 use std::marker::Model;
 
 /// A core's entries, four at most and oldest first, and the call that the core waits for.
-#[derive(Drop)]
+#[derive(Default, Drop)]
 pub struct CoreBuffer {
     entries: ArrayVec<Entry, 4>,
     pending: Option<Step>,
@@ -29,21 +29,6 @@ impl Model for CoreBuffer {
     ghost view = { λ b. record { entries = b.entries.items; pending = b.pending } };
 
     ghost invariant = { λ b. length b.entries.items ≤ capacity };
-}
-
-impl Default for CoreBuffer {
-    ghost use Rattle.std.specs.Prelude.{◌≡◌};
-    ghost use Rattle.buffer_rules.specs.Buffered.{empty};
-
-    ghost is_default = { λ b. b ≡ empty };
-
-    /// No entry, and no call to wait for.
-    fn default() -> CoreBuffer {
-        CoreBuffer {
-            entries: ArrayVec::new(),
-            pending: None,
-        }
-    }
 }
 
 /// What a move answers that has made a waiting call go on.
@@ -69,7 +54,7 @@ impl CoreBuffer {
     }
 
     /// Where the entry for an address stands.
-    fn place(&self, address: u8) -> Option<usize>
+    fn index_of(&self, address: u8) -> Option<usize>
         ensures value { result ≡ position (λ e. e.address == address) self.now.entries }
         ensures bound { IfSome result (λ i. i < length self.now.entries) }
     {
@@ -116,9 +101,9 @@ impl CoreBuffer {
         ensures { Does P.machine (load_rule core address self.old.entries) (P.state below.old) result self.new (P.state below.new) }
     {
         let call = Step::Load { core, address };
-        match self.place(address) {
-            Some(place) => {
-                let byte = self.entries[place].byte;
+        match self.index_of(address) {
+            Some(index) => {
+                let byte = self.entries[index].byte;
                 self.stop(
                     call,
                     Reply::Ended(Ended::Loaded {
@@ -161,9 +146,9 @@ impl CoreBuffer {
         ensures { Does P.machine (store_rule core address byte self.old.entries) (P.state below.old) result self.new (P.state below.new) }
     {
         let entry = Entry { address, byte };
-        match self.place(address) {
-            Some(place) => {
-                self.entries[place] = entry;
+        match self.index_of(address) {
+            Some(index) => {
+                self.entries[index] = entry;
                 self.end_store(core, entry)
             }
             None => self.store_new(below, core, entry),

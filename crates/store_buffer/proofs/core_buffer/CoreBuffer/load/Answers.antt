@@ -8,7 +8,7 @@ use Rattle.store_buffer.proofs.core_buffer.CoreBuffer.load.Goals as goal
 pub returns-in-Some : goal.returns-in-Some
 returns-in-Some g c =
     load_entry g.P.Protocol.machine.steps _ _ _ _ _ _
-    (found_at c.args.address c.in-Some.place _ c.args.self.now.entries _ (c.deref.ensures.0 ∙ entries_shown c.self.view_is) c.in-Some.ensures.value)
+    (found_at c.args.address c.in-Some.index _ c.args.self.now.entries _ (c.deref.ensures.0 ∙ entries_shown c.self.view_is) c.in-Some.ensures.value)
     (answered c.stop.ensures.answer c.stop.ensures.left)
 
 pub returns-in-None : goal.returns-in-None

@@ -8,8 +8,8 @@ use Rattle.store_buffer.proofs.core_buffer.CoreBuffer.store.Goals as goal
 
 pub returns-in-Some : goal.returns-in-Some
 returns-in-Some g c =
-    let e = written_at c.args.address c.args.byte c.in-Some.place _ _ _ c.deref_mut.ensures.value (entries_shown c.self.view_is) c.in-Some.ensures.value in
-    store_entry g.P.Protocol.machine.steps c.args.core c.args.address c.args.byte _ _ _ _ (found_at c.args.address c.in-Some.place c.args.self.now.entries c.args.self.now.entries (entry 0 0) refl c.in-Some.ensures.value)
+    let e = written_at c.args.address c.args.byte c.in-Some.index _ _ _ c.deref_mut.ensures.value (entries_shown c.self.view_is) c.in-Some.ensures.value in
+    store_entry g.P.Protocol.machine.steps c.args.core c.args.address c.args.byte _ _ _ _ (found_at c.args.address c.in-Some.index c.args.self.now.entries c.args.self.now.entries (entry 0 0) refl c.in-Some.ensures.value)
     (answered c.end_store.ensures.answer (c.end_store.ensures.left ∙ (λ i. record { entries = e i; pending = Nothing })))
 
 pub returns-in-None : goal.returns-in-None
