@@ -4,7 +4,8 @@ use Rattle.std.proofs.lemmas.Bool.{false≢true}
 use Rattle.mesi_rules.specs.declared.copies.PrivateLine.{PrivateLine}
 use Rattle.mesi_rules.specs.declared.copies.PrivateLine.TheVariants.{Invalid, Shared, Exclusive, Modified}
 use Rattle.mesi_rules.specs.Copies.{is_modified, held_or, owner_alone}
-use Rattle.mesi_rules.specs.Rows.{LineRow, Store, copy_at, home_line, seen_line, transaction, finished, owned}
+use Rattle.mesi_rules.specs.declared.calls.Call.TheVariants.{Store}
+use Rattle.mesi_rules.specs.Rows.{LineRow, copy_at, home_line, seen_line, transaction, finished, owned}
 use Rattle.mesi.proofs.Alone.{alone_modified}
 
 pub own_modified : (r : LineRow) (c : ℕ) → length r.copies ≡ 8 → owner_alone r.copies ≡ true → is_modified (copy_at r c) ≡ true → r ≡ owned r c

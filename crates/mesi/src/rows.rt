@@ -2,10 +2,10 @@
 
 ghost use Rattle.std.specs.Prelude.{◌≡◌, true};
 ghost use Rattle.mesi_rules.specs.Copies.{owner_alone};
-ghost use Rattle.mesi_rules.specs.Rows.{LineRow, Load, Store, cleared_row, home_line, seen_line, seen_at, flushed, taken, transacted, finished, owned, loaded, stored, evicted};
+ghost use Rattle.mesi_rules.specs.Rows.{LineRow, cleared_row, home_line, seen_line, seen_at, flushed, taken, transacted, finished, owned, loaded, stored, evicted};
 
 use crate::copies::{downgrade, fetched, modified_or, some_hold};
-use mesi_rules::PrivateLine;
+use mesi_rules::{Call, PrivateLine};
 use protocol::{Core, Offset};
 use std::marker::Model;
 
@@ -70,14 +70,25 @@ impl Row {
         self.copies[core.index()] = fetched(others_hold, self.llc);
     }
 
-    /// What goes over the bus at a load or a store: a core that does not hold the line takes it, an M line having gone into the LLC.
-    fn fetch(&mut self, core: Core)
-        ensures load { self.new ≡ transacted self.old core.number Load }
-        ensures store { self.new ≡ transacted self.old core.number Store }
+    /// What goes over the bus at a call, by the state of the caller's copy.
+    // A table by state and call, as the rules have it; `if`s in each call would hide the cases in which nothing goes over the bus.
+    fn transact(&mut self, core: Core, call: Call)
+        ensures { self.new ≡ transacted self.old core.number call }
     {
-        if !self.copies[core.index()].holds() {
-            self.flush();
-            self.take(core);
+        match (&self.copies[core.index()], call) {
+            (PrivateLine::Invalid, Call::Load | Call::Store) => {
+                self.flush();
+                self.take(core);
+            }
+            (PrivateLine::Modified(line), Call::Evict) => self.llc = *line,
+            (
+                PrivateLine::Shared(_) | PrivateLine::Exclusive(_) | PrivateLine::Modified(_),
+                Call::Load | Call::Store,
+            ) => {}
+            (
+                PrivateLine::Invalid | PrivateLine::Shared(_) | PrivateLine::Exclusive(_),
+                Call::Evict,
+            ) => {}
         }
     }
 
@@ -97,7 +108,7 @@ impl Row {
         if self.copies[core.index()].is_modified() {
             return;
         }
-        self.fetch(core);
+        self.transact(core, Call::Store);
         let line = *self.seen(core);
         self.finish(core, line);
     }
@@ -107,7 +118,7 @@ impl Row {
         ensures row { self.new ≡ loaded self.old core.number }
         ensures byte { result ≡ seen_at (loaded self.old core.number) core.number offset.number }
     {
-        self.fetch(core);
+        self.transact(core, Call::Load);
         self.seen(core)[offset.index()]
     }
 
@@ -119,14 +130,12 @@ impl Row {
         self.copies[core.index()].write(offset, byte);
     }
 
-    /// An M line goes into the LLC. Leaves I at the core.
+    /// Leaves I at the core.
     #[tactic(auto, using(crate::proofs::Alone::alone_evicted))]
     pub fn evict(&mut self, core: Core)
         ensures { self.new ≡ evicted self.old core.number }
     {
-        if let PrivateLine::Modified(line) = self.copies[core.index()] {
-            self.llc = line;
-        }
+        self.transact(core, Call::Evict);
         self.copies[core.index()] = PrivateLine::Invalid;
     }
 }

@@ -7,7 +7,9 @@ use Rattle.std.proofs.lemmas.List.Elements.{All-head, All-tail, All-set, All-map
 use Rattle.mesi_rules.specs.declared.copies.PrivateLine.{PrivateLine}
 use Rattle.mesi_rules.specs.declared.copies.PrivateLine.TheVariants.{Invalid, Shared, Exclusive, Modified}
 use Rattle.mesi_rules.specs.Copies.{holds, downgraded, held_or, fetched, modified_line, modified_or}
-use Rattle.mesi_rules.specs.Rows.{LineRow, Call, Load, Store, Evict, copy_at, home_line, seen_line, flushed, taken, transaction, transacted, finished, loaded, stored, evicted}
+use Rattle.mesi_rules.specs.declared.calls.Call.{Call}
+use Rattle.mesi_rules.specs.declared.calls.Call.TheVariants.{Load, Store, Evict}
+use Rattle.mesi_rules.specs.Rows.{LineRow, copy_at, home_line, seen_line, flushed, taken, transaction, transacted, finished, loaded, stored, evicted}
 
 -- What holds of the default and of each element holds of each place.
 pub all_at : {X : Type 0} (P : X → Type 0) (xs : List X) (i : ℕ) (d : X) → P d → All P xs → P (slice_index_or xs i d)

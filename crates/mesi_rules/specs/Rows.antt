@@ -1,6 +1,8 @@
 -- The rules of the bus for one line, state by event.
 use Rattle.std.specs.Prelude.{ℕ, List, map, replicate, slice_index, slice_index_or, slice_set}
 use Rattle.std.specs.List.{list_any}
+use Rattle.mesi_rules.specs.declared.calls.Call.{Call}
+use Rattle.mesi_rules.specs.declared.calls.Call.TheVariants.{Load, Store, Evict}
 use Rattle.mesi_rules.specs.declared.copies.PrivateLine.{PrivateLine}
 use Rattle.mesi_rules.specs.declared.copies.PrivateLine.TheVariants.{Invalid, Shared, Exclusive, Modified}
 use Rattle.mesi_rules.specs.Copies.{holds, downgraded, held_or, fetched, modified_or}
@@ -9,12 +11,6 @@ use Rattle.mesi_rules.specs.Copies.{holds, downgraded, held_or, fetched, modifie
 pub record LineRow : Type 0 where
   pub copies : List PrivateLine
   pub llc : List ℕ
-
--- A core's call, as its line's row sees it.
-pub data Call : Type 0 where
-  Load : Call
-  Store : Call
-  Evict : Call
 
 -- After a clear every core has I, and the LLC's bytes are 00.
 abbrev pub cleared_row : LineRow
