@@ -3,6 +3,8 @@
 
 mod digits;
 mod lines;
+mod page;
 
 pub use digits::{byte_digits, decimal_digits};
 pub use lines::{ended_line, step_line};
+pub use page::Page;

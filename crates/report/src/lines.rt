@@ -6,6 +6,7 @@ ghost use Rattle.protocol.specs.Steps.{call_of};
 ghost use Rattle.races.specs.Table.{mark_of};
 
 use crate::digits::{byte_digits, decimal_digits};
+use crate::page::Page;
 use protocol::{Ended, Step};
 use races::Outcome;
 
@@ -151,10 +152,12 @@ pub fn step_line(step: Step, outcome: Outcome) -> [u8; 14]
 pub fn ended_line(ended: u16, race: u16) -> [u8; 23]
     ensures { result ≡ ended_line ended race }
 {
-    let [a, b, c, d, e] = decimal_digits(ended);
-    let [v, w, x, y, z] = decimal_digits(race);
-    [
-        b'e', b'n', b'd', b'e', b'd', b' ', a, b, c, d, e, b' ', b'r', b'a', b'c', b'e', b' ', v,
-        w, x, y, z, b'\n',
-    ]
+    let mut line = [0; 23];
+    let mut page = Page::new(&mut line);
+    page.put(b"ended ");
+    page.put(&decimal_digits(ended));
+    page.put(b" race ");
+    page.put(&decimal_digits(race));
+    page.put(b"\n");
+    line
 }
