@@ -1,5 +1,5 @@
 -- A whole report, and the line of a fault, byte by byte.
-use Rattle.std.specs.Prelude.{◌≡◌, ℕ, zero, suc, ◌+◌, ◌*◌, ◌/◌, ◌%◌, ◌<◌, ◌≤◌, List, [], ◌∷◌, ◌++◌, length, take, drop, Ok, Err, codes, Result}
+use Rattle.std.specs.Prelude.{◌≡◌, ℕ, zero, suc, ◌+◌, ◌*◌, ◌/◌, ◌%◌, ◌<◌, ◌≤◌, List, [], ◌∷◌, ◌++◌, length, drop, Ok, Err, codes, Result}
 use Rattle.protocol.specs.declared.steps.Step.{Step}
 use Rattle.protocol.specs.Meaning.{Machine}
 use Rattle.races.specs.declared.outcomes.Outcome.{Outcome}
@@ -11,6 +11,8 @@ use Rattle.bench.specs.declared.faults.Cause.TheVariants.{OutputTooShort}
 use Rattle.bench.specs.declared.faults.Layer.TheVariants.{Caller}
 use Rattle.bench.specs.Faults.{cause_number, layer_number}
 use Rattle.bench.specs.Chains.{Chain, AnyStep, ComesTo, HoldsAlong}
+use Rattle.report.specs.declared.page.Page.{Page}
+use Rattle.report.specs.Page.{Puts}
 use Rattle.report.specs.Digits.{byte_digits, decimal_digits}
 use Rattle.report.specs.Lines.{step_line, ended_line, line_end}
 
@@ -45,12 +47,11 @@ two_digits n = (48 + n / 10 % 10) ∷ (48 + n % 10) ∷ []
 abbrev pub fault_line : Fault → List ℕ
 fault_line f = codes "fault " ++ (two_digits (cause_number f.cause) ++ (codes " place " ++ (decimal_digits f.place ++ (codes " layer " ++ ((48 + layer_number f.layer) ∷ line_end)))))
 
--- Some steps that were printed from a place `at` on, where the buffer held `out` and holds `new`.
-pub record StepsPrinted (M : Machine) (s : M.State) (w : RaceTable) (ks : List Step) (out new : List ℕ) (at next : ℕ) (t : M.State) (v : RaceTable) : Type 0 where
+-- Some steps that were taken, and whose lines were put into a page.
+pub record StepsPrinted (M : Machine) (s : M.State) (w : RaceTable) (ks : List Step) (old new : Page) (t : M.State) (v : RaceTable) : Type 0 where
   pub rs : List Outcome
   pub chain : Chain M (AnyStep M) s w ks rs t v
-  pub written : new ≡ take at out ++ (step_lines ks rs ++ drop next out)
-  pub counted : next ≡ at + 14 * length ks
+  pub puts : Puts old new (step_lines ks rs)
 
 -- A study that was printed into the start of a buffer that held `out` and holds `new`. From a clear on, the outcomes are the protocol's, and
 -- the guarantee holds at each point of the study, of the log that the steps and the printed answers make.

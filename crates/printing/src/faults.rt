@@ -4,7 +4,7 @@ ghost use Rattle.std.specs.Prelude.{◌≡◌};
 ghost use Rattle.printing.specs.Page.{fault_line, two_digits};
 
 use bench::Fault;
-use report::decimal_digits;
+use report::{Page, decimal_digits};
 
 /// A number below 100 as two digits to base ten.
 fn two_digits(n: u8) -> [u8; 2]
@@ -17,11 +17,14 @@ fn two_digits(n: u8) -> [u8; 2]
 pub fn fault_line(fault: Fault) -> [u8; 29]
     ensures { result ≡ fault_line fault }
 {
-    let [x, y] = two_digits(u8::from(fault.cause));
-    let [a, b, c, d, e] = decimal_digits(fault.place);
-    let layer = b'0' + u8::from(fault.layer);
-    [
-        b'f', b'a', b'u', b'l', b't', b' ', x, y, b' ', b'p', b'l', b'a', b'c', b'e', b' ', a, b,
-        c, d, e, b' ', b'l', b'a', b'y', b'e', b'r', b' ', layer, b'\n',
-    ]
+    let mut line = [0; 29];
+    let mut page = Page::new(&mut line);
+    page.put(b"fault ");
+    page.put(&two_digits(u8::from(fault.cause)));
+    page.put(b" place ");
+    page.put(&decimal_digits(fault.place));
+    page.put(b" layer ");
+    page.put(&[b'0' + u8::from(fault.layer)]);
+    page.put(b"\n");
+    line
 }
