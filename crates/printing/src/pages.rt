@@ -26,6 +26,7 @@ fn print_image<P: Protocol>(bench: &Bench<P>, page: &mut Page<'_>)
     ensures image { (log : Log) → Watched P.machine (P.state bench.now.protocol) bench.now.races log → Puts page.old page.new (image_digits (P.machine.moment (P.state bench.now.protocol)).view.home 64) }
 {
     for address in 0..64u8 {
+        // no address below 64 is refused in a study, so the 0 is never printed
         let byte = bench.image(address).unwrap_or(0);
         page.put(&byte_digits(byte));
     }
@@ -48,11 +49,7 @@ pub fn print_study<P: Protocol + Drop>(
     ensures { Prints P.machine heading steps.now out.old result out.new }
 {
     if out.len() < report_length(steps.len()) {
-        return Err(Fault {
-            cause: Cause::OutputTooShort,
-            place: 0,
-            layer: Layer::Caller,
-        });
+        return Err(Layer::Caller.fault(Cause::OutputTooShort, 0));
     }
     let mut bench = Bench::new(protocol);
     let mut page = Page::new(out);

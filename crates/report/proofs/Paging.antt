@@ -1,5 +1,5 @@
 -- What is put into a page piece by piece is put whole.
-use Rattle.std.proofs.Common.{◌≡◌, ℕ, zero, suc, ◌+◌, ◌-◌, ◌≤◌, min, List, [], ◌∷◌, ◌++◌, length, take, drop, sym, refl, ap, ◌∙◌, append_assoc, arith, length-append, length-drop}
+use Rattle.std.proofs.Common.{◌≡◌, ℕ, zero, suc, ◌+◌, ◌-◌, ◌≤◌, min, List, [], ◌∷◌, ◌++◌, length, take, drop, sym, refl, ap, ◌∙◌, subst, append_assoc, arith, length-append, length-drop}
 use borrow.Rule.Slice.PartMut.{put_mid}
 use Rattle.std.proofs.lemmas.List.{append-nil, length-take-le, take_min, drop_min, take_at, drop_at, take_all, drop_all, drop-drop, take-append-drop}
 use Rattle.report.specs.declared.page.Page.{Page}
@@ -61,7 +61,7 @@ puts_whole {p} {q} xs e room h =
     record { wrote = all; holds = sym (take-append-drop q.filled q.buffer.now) ∙ (λ i. all i ++ h.keeps i) }
 
 -- A line that fills its buffer.
-pub puts_line : {p q : Page} (xs : List ℕ) → written p ≡ [] → length xs ≡ length (rest p) → Puts p q xs → q.buffer.now ≡ xs
-puts_line {p} {q} xs e n h =
-    let w = puts_whole xs e (omega arith) h in
+pub puts_line : {p q : Page} {ys : List ℕ} (xs : List ℕ) → written p ≡ [] → length xs ≡ length (rest p) → Puts p q ys → ys ≡ xs → q.buffer.now ≡ xs
+puts_line {p} {q} xs e n h is =
+    let w = puts_whole xs e (omega arith) (subst (Puts p q) is h) in
     w.holds ∙ (ap (λ (z : List ℕ). xs ++ z) (drop_all (length xs) (rest p) (omega arith)) ∙ append-nil xs)

@@ -1,7 +1,7 @@
 //! Digits of numbers.
 
 ghost use Rattle.std.specs.Prelude.{◌≡◌, ◌<◌, [], ◌∷◌};
-ghost use Rattle.report.specs.Digits.{hex_digit, byte_digits, decimal_digits};
+ghost use Rattle.report.specs.Digits.{hex_digit, byte_digits, digits_of};
 
 /// One digit to base sixteen, in lower case.
 fn hex_digit(n: u8) -> u8
@@ -18,15 +18,15 @@ pub fn byte_digits(byte: u8) -> [u8; 2]
     [hex_digit(byte / 16), hex_digit(byte % 16)]
 }
 
-/// A number as five digits to base ten.
-pub fn decimal_digits(n: u16) -> [u8; 5]
-    ensures { result ≡ decimal_digits n }
+/// A number as its last N digits to base ten.
+pub fn decimal_digits<const N: usize>(number: u16) -> [u8; N]
+    ensures { result ≡ digits_of N number }
 {
-    [
-        b'0' + (n / 10000 % 10) as u8,
-        b'0' + (n / 1000 % 10) as u8,
-        b'0' + (n / 100 % 10) as u8,
-        b'0' + (n / 10 % 10) as u8,
-        b'0' + (n % 10) as u8,
-    ]
+    let mut digits = [b'0'; N];
+    let mut left = number;
+    for i in 0..N {
+        digits[N - 1 - i] = b'0' + (left % 10) as u8;
+        left /= 10;
+    }
+    digits
 }

@@ -1,8 +1,7 @@
 //! The line of a step, and the line of the counts.
 
 ghost use Rattle.std.specs.Prelude.{◌≡◌, [], ◌∷◌};
-ghost use Rattle.report.specs.Lines.{outcome_letter, shown_call, core_digit, core_shown, call_letter, byte_of_ended, byte_shown, mark_shown, refusal_shown, step_line, ended_line};
-ghost use Rattle.protocol.specs.Steps.{call_of};
+ghost use Rattle.report.specs.Lines.{outcome_letter, shown_call, core_shown, call_letter, byte_of_ended, byte_shown, mark_shown, refusal_shown, step_line, ended_line};
 ghost use Rattle.races.specs.Table.{mark_of};
 
 use crate::digits::{byte_digits, decimal_digits};
@@ -21,54 +20,23 @@ fn outcome_letter(outcome: Outcome) -> u8
     }
 }
 
-/// The call that has ended.
-fn call_of(call: Ended) -> Step
-    ensures { result ≡ call_of call }
-{
-    match call {
-        Ended::Loaded { core, address, .. } => Step::Load { core, address },
-        Ended::Stored {
-            core,
-            address,
-            byte,
-        } => Step::Store {
-            core,
-            address,
-            byte,
-        },
-        Ended::Acquired { core } => Step::Acquire { core },
-        Ended::Released { core } => Step::Release { core },
-        Ended::Evicted { core, line } => Step::Evict { core, line },
-    }
-}
-
 /// The call that a line shows.
 fn shown_call(step: Step, outcome: Outcome) -> Option<Step>
     ensures { result ≡ shown_call step outcome }
 {
     match outcome {
         Outcome::Refused(_) | Outcome::Waits => Some(step),
-        Outcome::Ended { call, .. } | Outcome::Finished { call, .. } => Some(call_of(call)),
+        Outcome::Ended { call, .. } | Outcome::Finished { call, .. } => Some(Step::from(call)),
         Outcome::Moved => None,
     }
-}
-
-fn core_digit(core: u8) -> u8
-    ensures { result ∷ [] ≡ core_digit core }
-{
-    if core < 8 { b'0' + core } else { b'-' }
 }
 
 fn core_shown(call: Option<Step>) -> u8
     ensures { result ∷ [] ≡ core_shown call }
 {
-    match call {
-        None | Some(Step::Move { .. }) => b'-',
-        Some(Step::Load { core, .. }) => core_digit(core),
-        Some(Step::Store { core, .. }) => core_digit(core),
-        Some(Step::Acquire { core }) => core_digit(core),
-        Some(Step::Release { core }) => core_digit(core),
-        Some(Step::Evict { core, .. }) => core_digit(core),
+    match call.and_then(Step::core) {
+        Some(core) if core < 8 => b'0' + core,
+        _ => b'-',
     }
 }
 
@@ -90,7 +58,7 @@ fn byte_of_ended(call: Ended) -> [u8; 2]
 {
     match call {
         Ended::Loaded { byte, .. } | Ended::Stored { byte, .. } => byte_digits(byte),
-        _ => [b'-', b'-'],
+        _ => *b"--",
     }
 }
 
@@ -99,7 +67,7 @@ fn byte_shown(outcome: Outcome) -> [u8; 2]
 {
     match outcome {
         Outcome::Ended { call, .. } | Outcome::Finished { call, .. } => byte_of_ended(call),
-        _ => [b'-', b'-'],
+        _ => *b"--",
     }
 }
 
@@ -107,9 +75,7 @@ fn mark_shown(outcome: Outcome) -> u8
     ensures { result ∷ [] ≡ mark_shown (mark_of outcome) }
 {
     match outcome {
-        Outcome::Ended { race, .. } | Outcome::Finished { race, .. } => {
-            if race { b'!' } else { b'.' }
-        }
+        Outcome::Ended { race: true, .. } | Outcome::Finished { race: true, .. } => b'!',
         _ => b'.',
     }
 }
@@ -118,8 +84,8 @@ fn refusal_shown(outcome: Outcome) -> [u8; 2]
     ensures { result ≡ refusal_shown outcome }
 {
     match outcome {
-        Outcome::Refused(refusal) => [b'0', b'0' + u8::from(refusal)],
-        _ => [b'0', b'0'],
+        Outcome::Refused(refusal) => decimal_digits(u16::from(u8::from(refusal))),
+        _ => *b"00",
     }
 }
 
@@ -155,9 +121,9 @@ pub fn ended_line(ended: u16, race: u16) -> [u8; 23]
     let mut line = [0; 23];
     let mut page = Page::new(&mut line);
     page.put(b"ended ");
-    page.put(&decimal_digits(ended));
+    page.put(&decimal_digits::<5>(ended));
     page.put(b" race ");
-    page.put(&decimal_digits(race));
+    page.put(&decimal_digits::<5>(race));
     page.put(b"\n");
     line
 }
