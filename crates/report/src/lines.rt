@@ -93,6 +93,7 @@ fn refusal_shown(outcome: Outcome) -> [u8; 2]
 pub fn step_line(step: Step, outcome: Outcome) -> [u8; 14]
     ensures { result ≡ step_line step outcome }
 {
+    // Every piece is one byte or two, so the line stands here as it is read, and is no `Page`.
     let call = shown_call(step, outcome);
     let [high, low] = byte_shown(outcome);
     let [tens, units] = refusal_shown(outcome);

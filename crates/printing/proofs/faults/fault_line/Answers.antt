@@ -1,6 +1,5 @@
 -- The line is its pieces, one behind the other.
 use Rattle.std.proofs.Common.{◌+◌, ◌∷◌, ◌++◌, length, codes, ap, ◌∙◌, arith, rules}
-use Rattle.bench.specs.Faults.{cause_number}
 use Rattle.report.specs.Lines.{line_end}
 use Rattle.report.proofs.Paging.{puts_more, puts_line}
 use Rattle.report.proofs.Tens.{five_digits}
