@@ -15,8 +15,7 @@ use Rattle.study_file.specs.Records.{Found, most_bytes, reader_fault, record_at,
 use Rattle.study_file.specs.Plans.{Asked, most_steps, plan_fault, as_step, as_code, size_of, step_in, code_in, with_step, steps_from, with_code, then_code, plan_of, read_file}
 use Rattle.study_file.specs.Files.{record_of, kind_of, fields, step_record, code_record, file_of}
 use Rattle.study_file.specs.Laws.{Check, ProtocolFirst, KnownCode, RoomForStep, every_check, kind_at, Passes, FirstFailed, SoundFile, Faulty, more_bytes, no_record, bad_record, Exact}
-use Rattle.study_file.proofs.Soundness.{named_has, record_inv, record_reads}
-use Rattle.study_file.proofs.Reading.{next_more}
+use Rattle.study_file.proofs.Soundness.{named_has, record_inv, record_reads, next_more}
 use Rattle.study_file.proofs.Planning.{steps_next, steps_step, before}
 use Rattle.study_file.proofs.Items.{Which, names, asks, which, no_protocol, step_item, step_size, step_bytes}
 use Rattle.study_file.proofs.Filling.{step_fields}

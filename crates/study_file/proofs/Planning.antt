@@ -8,8 +8,7 @@ use Rattle.protocol.specs.declared.steps.Step.{Step}
 use Rattle.bench.specs.declared.faults.Cause.TheVariants.{TooLong}
 use Rattle.bench.specs.declared.faults.Fault.{Fault}
 use Rattle.study_file.specs.declared.codes.Code.{Code}
-use Rattle.study_file.specs.declared.records.Record.{Record}
-use Rattle.study_file.specs.Codes.{fields_of}
+use Rattle.study_file.specs.declared.record.Record.{Record}
 use Rattle.study_file.specs.declared.plans.Failure.{Failure}
 use Rattle.study_file.specs.declared.plans.Failure.TheVariants.{Fault as HasFault, OutOfMemory}
 use Rattle.study_file.specs.Records.{Found, most_bytes, reader_fault, record_at, or_none, next_at, next_record, place_after, found_next}
@@ -53,15 +52,6 @@ before_step ks k (Err e) = refl
 -- The steps ks are read, and what is left from place p on makes the wanted result.
 abbrev pub Going : Result (List Step) Fault → List ℕ → ℕ → List Step → Type 0
 Going want file p ks = (length file ≤ most_bytes) × (length ks ≤ most_steps) × (before ks (steps_from (most_steps - length ks) p (drop p file)) ≡ want)
-
-pub going_start : (file : List ℕ) (p : ℕ) (ks : List Step) → length file ≤ most_bytes → ks ≡ [] → Going (steps_from most_steps p (drop p file)) file p ks
-going_start file p ks l e =
-    let want = steps_from most_steps p (drop p file) in
-    transport (λ i. Going want file p (sym e i)) (l, omega arith, before_none want)
-  where
-    before_none : (x : Result (List Step) Fault) → before [] x ≡ x
-    before_none (Ok xs) = refl
-    before_none (Err x) = refl
 
 module _ (want : Result (List Step) Fault) (file : List ℕ) (p : ℕ) (ks : List Step) (g : Going want file p ks) where
   pub going_end : Ok None ≡ next_record p file → want ≡ Ok ks
@@ -113,16 +103,11 @@ handed o o' x e f = ap (λ (y : Option Record). found_next (Ok y)) (sym e) ∙ f
 pub handed_place : (o o' : Option Record) (p q : ℕ) → o ≡ o' → q ≡ place_after p (found_next (Ok o)) → q ≡ place_after p (found_next (Ok o'))
 handed_place o o' p q e f = f ∙ ap (λ (y : Option Record). place_after p (found_next (Ok y))) e
 
--- The exits of a reading by `?`: a fault, and want of memory.
+-- The exits of a reading by `?`.
 pub fault_exit : {X Y : Type 0} (by : X → Y) (want : Result Y Fault) (r : Result X Failure) (e : Fault) → IsErrAnd r (λ y. y ≡ HasFault e) → want ≡ Err e → Answers by want r
 fault_exit by want r e h w =
     let x = err_from_is_err_and r h in
     subst (Answers by want) (sym (x.1 ∙ ap Err x.2)) w
-
-pub memory_exit : {X Y : Type 0} (by : X → Y) (want : Result Y Fault) (r : Result X Failure) → IsErrAnd r (λ y. y ≡ OutOfMemory) → Answers by want r
-memory_exit by want r h =
-    let x = err_from_is_err_and r h in
-    subst (Answers by want) (sym (x.1 ∙ ap Err x.2)) tt
 
 pub same_exit : {X Y : Type 0} (by : X → Y) (want : Result Y Fault) (r : Result X Failure) (y : Failure) → IsErrAnd r (λ z. z ≡ y) → Answers by want (Err y) → Answers by want r
 same_exit by want r y h w =
@@ -141,13 +126,6 @@ read_is file = go (ltb most_bytes (length file))
 module _ (file f : List ℕ) (p : ℕ) (f_is : f ≡ file) (p_is : p ≡ 0) where
   pub read_next : (x : Result (Option Found) Fault) → x ≡ next_record p f → read_file file ≡ plan_of x file
   read_next x e = read_is file ∙ (λ i. plan_of (sym (e ∙ (λ j. next_record (p_is j) (f_is j))) i) file)
-
-  pub first_sound : (r : Found) → Ok (Some r) ≡ next_record p f → length r.body ≡ fields_of r.kind
-  first_sound r e = go (ltb most_bytes (length f)) e
-    where
-      go : (b : Bool) → Ok (Some r) ≡ cond b (Err (reader_fault TooLong most_bytes)) (next_at p (drop p f)) → length r.body ≡ fields_of r.kind
-      go true q = absurd (let z : ◌≡◌ {A = ℕ} 0 1 = cc in omega arith)
-      go false q = (next_sound p (drop p f) r (sym q)).fit
 
   pub read_code : (r : Found) (y : Result Code Fault) → Ok (Some r) ≡ next_record p f → y ≡ code_in r → read_file file ≡ then_code y (λ c. with_code c (steps_from most_steps (size_of r) (drop (size_of r) file)))
   read_code r y e h = read_next (Ok (Some r)) e ∙ ap (λ (z : Result Code Fault). then_code z (λ c. with_code c (steps_from most_steps (size_of r) (drop (size_of r) file)))) (sym h)

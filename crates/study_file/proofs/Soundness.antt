@@ -1,12 +1,12 @@
 -- A record is sound exactly if it is the bytes of a kind and a body with that kind's fields.
-use Rattle.std.proofs.Common.{◌≡◌, ℕ, suc, ◌+◌, ◌/◌, ◌%◌, ◌≤◌, Bool, true, false, cond, eqb, ltb, List, [], ◌∷◌, ◌++◌, length, take, drop, Some, None, Ok, Err, Option, sym, refl, ap, ◌∙◌, arith}
+use Rattle.std.proofs.Common.{◌≡◌, ℕ, suc, ◌+◌, ◌/◌, ◌%◌, ◌<◌, ◌≤◌, Bool, true, false, cond, eqb, ltb, List, [], ◌∷◌, ◌++◌, length, take, drop, Some, None, Ok, Err, Option, sym, refl, ap, ◌∙◌, arith}
 use Rattle.std.proofs.lemmas.List.{take-append-drop, length-take-le, length-append, take_at}
 use Rattle.std.proofs.lemmas.Bool.{cond-true, cond-false, eq-eqb, eqb-true, le-ltb, ltb-false}
 use Rattle.bench.specs.declared.faults.Cause.TheVariants.{CutShort, WrongLength}
 use Rattle.study_file.specs.declared.codes.Kind.{Kind}
 use Rattle.study_file.specs.declared.codes.Kind.TheVariants.{Protocol, Load, Store, Acquire, Release, Evict, Move}
 use Rattle.study_file.specs.Codes.{numbered_among, every_kind, kind_number, kind_named, fields_of}
-use Rattle.study_file.specs.Records.{Found, reader_fault, two_bytes, by_kind, content_at, record_at}
+use Rattle.study_file.specs.Records.{Found, reader_fault, two_bytes, by_kind, content_at, record_at, or_none, next_at}
 use Rattle.study_file.specs.Plans.{size_of}
 use Rattle.study_file.specs.Files.{bytes_of, record_of}
 
@@ -115,3 +115,8 @@ record_reads p k b rest fit =
     ∙ (ap (λ m. by_kind p (kind_named m) b) number
     ∙ (ap (λ (o : Option Kind). by_kind p o b) (kind_is k)
     ∙ cond-true (eqb (length b) (fields_of k)) _ _ (eq-eqb (length b) (fields_of k) fit))))
+
+-- A record is next where a byte is left.
+pub next_more : (p : ℕ) (xs : List ℕ) → 0 < length xs → next_at p xs ≡ or_none (record_at p xs)
+next_more p [] h = absurd (omega arith)
+next_more p (x ∷ xs) h = refl

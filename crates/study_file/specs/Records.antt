@@ -5,7 +5,7 @@ use Rattle.bench.specs.declared.faults.Cause.TheVariants.{CutShort, UnknownKind,
 use Rattle.bench.specs.declared.faults.Layer.TheVariants.{Reader}
 use Rattle.bench.specs.declared.faults.Fault.{Fault}
 use Rattle.study_file.specs.declared.codes.Kind.{Kind}
-use Rattle.study_file.specs.declared.records.Record.{Record}
+use Rattle.study_file.specs.declared.record.Record.{Record}
 use Rattle.study_file.specs.Codes.{kind_named, fields_of}
 
 -- A file has at most 32,768 bytes.

@@ -3,10 +3,12 @@
 
 mod codes;
 mod plans;
+mod record;
 mod records;
 mod writer;
 
 pub use codes::{Code, Kind};
 pub use plans::{Failure, Plan, read};
-pub use records::{Reader, Record};
+pub use record::Record;
+pub use records::Reader;
 pub use writer::write;

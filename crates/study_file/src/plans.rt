@@ -1,14 +1,14 @@
 //! The plan: the protocol and the steps that a file asks for.
 
 ghost use Rattle.std.specs.Prelude.{◌≡◌, ◌≤◌, length, drop, vec_items};
-ghost use Rattle.study_file.specs.Codes.{fields_of};
 ghost use Rattle.study_file.specs.Records.{most_bytes, held};
-ghost use Rattle.study_file.specs.Plans.{plan_fault, item_of, code_in, step_in, most_steps, steps_from, read_file, asked, Answers};
+ghost use Rattle.study_file.specs.Plans.{item_of, code_in, step_in, most_steps, steps_from, read_file, asked, Answers};
 ghost use Rattle.study_file.specs.Laws.{Exact, WritesBack};
 ghost use Rattle.study_file.specs.declared.plans.Failure.TheVariants.{Fault as HasFault, OutOfMemory};
 
 use crate::codes::{Code, Kind};
-use crate::records::{Reader, Record, reader_fault};
+use crate::record::Record;
+use crate::records::Reader;
 use bench::{Cause, Fault, Layer};
 use protocol::Step;
 use std::alloc::{AllocError, AllocFailed, Global};
@@ -27,6 +27,8 @@ pub enum Failure {
     /// There is no memory for the steps.
     OutOfMemory,
 }
+
+// No `Result`: neither is a failure of the other. The first record has to be the one, and every later record the other.
 
 /// What a record says: the number of a code, or a step.
 #[derive(Clone, Copy)]
@@ -62,23 +64,11 @@ impl<T: Drop> From<AllocFailed<T>> for Failure {
     }
 }
 
-/// A fault that the plan finds in the record at a place.
-fn plan_fault(cause: Cause, place: u16) -> Fault
-    ensures { result ≡ plan_fault cause place }
+/// Takes a record apart into its fields.
+fn item_of(record: Record<'_>) -> Item
+    ensures { result ≡ item_of «record».entry.kind «record».entry.body.now }
 {
-    Fault {
-        cause,
-        place,
-        layer: Layer::Plan,
-    }
-}
-
-/// Takes a body apart into its fields.
-fn item_of(kind: Kind, body: &[u8]) -> Item
-    requires { length body.now ≡ fields_of kind }
-    ensures { result ≡ item_of kind body.now }
-{
-    match (kind, body) {
+    match (record.kind, record.body) {
         (Kind::Protocol, [code]) => Item::Code(*code),
         (Kind::Load, [core, address]) => Item::Step(Step::Load {
             core: *core,
@@ -101,26 +91,23 @@ fn item_of(kind: Kind, body: &[u8]) -> Item
 }
 
 /// The code that the first record has to name.
-fn code_of(record: Record) -> Result<Code, Fault>
-    requires { length «record».body.now ≡ fields_of «record».kind }
+fn code_of(record: Record<'_>) -> Result<Code, Fault>
     ensures { result ≡ code_in (held «record».entry) }
 {
-    match item_of(record.kind, record.body) {
-        Item::Code(number) => Code::named(number).ok_or(plan_fault(
-            Cause::UnknownCode,
-            record.place,
-        )),
-        Item::Step(_) => Err(plan_fault(Cause::ProtocolNotFirst, record.place)),
+    match item_of(record) {
+        Item::Code(number) => {
+            Code::try_from(number).map_err(|cause| Layer::Plan.fault(cause, record.place))
+        }
+        Item::Step(_) => Err(Layer::Plan.fault(Cause::ProtocolNotFirst, record.place)),
     }
 }
 
 /// The step that every later record has to be.
-fn step_of(record: Record) -> Result<Step, Fault>
-    requires { length «record».body.now ≡ fields_of «record».kind }
+fn step_of(record: Record<'_>) -> Result<Step, Fault>
     ensures { result ≡ step_in (held «record».entry) }
 {
-    match item_of(record.kind, record.body) {
-        Item::Code(_) => Err(plan_fault(Cause::ProtocolNotFirst, record.place)),
+    match item_of(record) {
+        Item::Code(_) => Err(Layer::Plan.fault(Cause::ProtocolNotFirst, record.place)),
         Item::Step(step) => Ok(step),
     }
 }
@@ -134,7 +121,7 @@ fn read_steps(heap: Global, reader: &mut Reader) -> Result<Vec<Step>, Failure>
     while let Some(record) = reader.next_record()? {
         let step = step_of(record)?;
         if steps.len() == MOST_STEPS {
-            return Err(Failure::Fault(reader_fault(Cause::TooLong, record.place)));
+            return Err(Failure::Fault(Layer::Reader.fault(Cause::TooLong, record.place)));
         }
         steps.push(step)?;
     }
@@ -149,7 +136,7 @@ pub fn read(heap: Global, file: &[u8]) -> Result<Plan, Failure>
 {
     let mut reader = Reader::new(file);
     let Some(first) = reader.next_record()? else {
-        return Err(Failure::Fault(plan_fault(Cause::ProtocolNotFirst, 0)));
+        return Err(Failure::Fault(Layer::Plan.fault(Cause::ProtocolNotFirst, 0)));
     };
     let code = code_of(first)?;
     let steps = read_steps(heap, &mut reader)?;

@@ -1,18 +1,14 @@
 //! The reader: it borrows a file and hands on its records, one after the other.
 
 ghost use Rattle.std.specs.Prelude.{◌≡◌};
-ghost use Rattle.study_file.specs.Records.{reader_fault, content_at, record_at, next_record, place_after, found, found_next};
+ghost use Rattle.study_file.specs.Records.{content_at, record_at, next_record, place_after, found, found_next};
 
 use crate::codes::Kind;
+use crate::record::Record;
 use bench::{Cause, Fault, Layer};
 
-/// A sound record: its kind, its body as that part of the file, and the place of its first byte.
-#[derive(Clone, Copy)]
-pub struct Record<'a> {
-    pub kind: Kind,
-    pub body: &'a [u8],
-    pub place: u16,
-}
+// The file stands beside the place, and not a slice of what is left of it: each record and each fault names its place, and the length of
+// the whole file is looked at first. The reader is no `Iterator`: at a fault it stays where it is, and a loop over it would not end.
 
 /// Reads a file record by record. The next one stands at its place.
 #[derive(Drop)]
@@ -24,31 +20,19 @@ pub struct Reader<'a> {
 /// A file has at most so many bytes.
 const MOST_BYTES: u16 = 32768;
 
-/// A fault that the reader finds in the record at a place.
-pub(crate) fn reader_fault(cause: Cause, place: u16) -> Fault
-    ensures { result ≡ reader_fault cause place }
-{
-    Fault {
-        cause,
-        place,
-        layer: Layer::Reader,
-    }
-}
-
 /// The record at a place, where `content` is what follows its length: its kind and its body.
 fn content_at(place: u16, content: &[u8]) -> Result<Record<'_>, Fault>
     ensures { found result ≡ content_at place content.now }
 {
     let [low, high, body @ ..] = content else {
-        return Err(reader_fault(Cause::WrongLength, place));
+        return Err(Layer::Reader.fault(Cause::WrongLength, place));
     };
-    let Some(kind) = Kind::named(u16::from_le_bytes([*low, *high])) else {
-        return Err(reader_fault(Cause::UnknownKind, place));
-    };
+    let number = u16::from_le_bytes([*low, *high]);
+    let kind = Kind::try_from(number).map_err(|cause| Layer::Reader.fault(cause, place))?;
     if body.len() == kind.fields() {
         Ok(Record { kind, body, place })
     } else {
-        Err(reader_fault(Cause::WrongLength, place))
+        Err(Layer::Reader.fault(Cause::WrongLength, place))
     }
 }
 
@@ -57,11 +41,11 @@ fn record_at(place: u16, rest: &[u8]) -> Result<Record<'_>, Fault>
     ensures { found result ≡ record_at place rest.now }
 {
     let [low, high, rest @ ..] = rest else {
-        return Err(reader_fault(Cause::CutShort, place));
+        return Err(Layer::Reader.fault(Cause::CutShort, place));
     };
     let length = u16::from_le_bytes([*low, *high]) as usize;
     if rest.len() < length {
-        return Err(reader_fault(Cause::CutShort, place));
+        return Err(Layer::Reader.fault(Cause::CutShort, place));
     }
     content_at(place, &rest[0..length])
 }
@@ -83,7 +67,7 @@ impl<'a> Reader<'a> {
     {
         let place = self.place;
         if self.file.len() > MOST_BYTES as usize {
-            return Err(reader_fault(Cause::TooLong, MOST_BYTES));
+            return Err(Layer::Reader.fault(Cause::TooLong, MOST_BYTES));
         }
         if place as usize >= self.file.len() {
             return Ok(None);

@@ -10,6 +10,7 @@ use mesi::Mesi;
 use neat::Neat;
 use printing::print_study;
 use protocol::Step;
+use report::Page;
 use std::alloc::Global;
 use store_buffer::StoreBuffer;
 use study_file::{Code, Failure, read};
@@ -18,20 +19,16 @@ use study_file::{Code, Failure, read};
 fn heading(code: Code) -> [u8; 11]
     ensures { result ≡ heading_of code }
 {
-    [
-        b'p',
-        b'r',
-        b'o',
-        b't',
-        b'o',
-        b'c',
-        b'o',
-        b'l',
-        b' ',
-        b'0' + code.number(),
-        b'\n',
-    ]
+    let mut line = [0; 11];
+    let mut page = Page::new(&mut line);
+    page.put(b"protocol ");
+    page.put(&[b'0' + u8::from(code)]);
+    page.put(b"\n");
+    line
 }
+
+// The codes name four protocols, each a type of its own, and the study is made by one function over any of them. What chooses the type is
+// this match: a trait or a closure in its place would be written four times, once for each type, and handed a value that a match chose.
 
 /// Makes the study under the protocol of the code, and prints its report into the start of the buffer.
 fn print_plan(code: Code, steps: &[Step], out: &mut [u8]) -> Result<usize, Fault>

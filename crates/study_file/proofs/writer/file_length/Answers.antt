@@ -1,15 +1,17 @@
--- The length grows by a record's, and fits.
-use Rattle.std.proofs.Common.{rules}
-use Rattle.study_file.proofs.Filling.{length_fits, length_more, length_all}
+-- The records' lengths make up the file's, which fits.
+use Rattle.std.proofs.Common.{◌≡◌, ◌+◌, sym, ◌∙◌, arith, rules}
+use Rattle.std.specs.List.{sum_by}
+use Rattle.std.proofs.iter.runs.Made.{chains}
+use Rattle.study_file.specs.Codes.{fields_of}
+use Rattle.study_file.specs.Files.{kind_of}
+use Rattle.study_file.proofs.Filling.{steps_length, steps_short}
 use Rattle.study_file.proofs.writer.file_length.Goals as goal
 
-pub overflow_add-length : goal.overflow_add-length
-overflow_add-length c =
-    let h = length_fits c.args.steps.now c.loop-step.step-index c.loop-step.length c.record_length-length-in-loop-step.result c.kind_of.result c.requires c.loop-step-test.true c.loop-step.invariant c.record_length-length-in-loop-step.ensures in search rules
+total : (c : goal.After-sum) → c.sum.result ≡ sum_by (λ k. 4 + fields_of (kind_of k)) c.args.steps.now
+total c = search (rules, chains)
 
-pub loop-step-preserved : goal.loop-step-preserved
-loop-step-preserved c =
-    length_more c.args.steps.now c.loop-step.step-index c.loop-step.length c.record_length-length-in-loop-step.result c.kind_of.result _ c.loop-step-test.true c.loop-step.invariant c.kind_of.ensures c.record_length-length-in-loop-step.ensures
+pub overflow_add-result : goal.overflow_add-result
+overflow_add-result c = let s = total c in let n = steps_length c.args.steps.now in let m = steps_short c.args.steps.now in search rules
 
 pub returns : goal.returns
-returns c = length_all c.args.steps.now c.loop-step.step-index c.loop-step.length c.loop-step-test.false c.loop-step.invariant
+returns c = let s = total c ∙ sym (steps_length c.args.steps.now) in omega (arith, c.record_length.ensures, s)
