@@ -24,8 +24,9 @@ pub fn decimal_digits<const N: usize>(number: u16) -> [u8; N]
 {
     let mut digits = [b'0'; N];
     let mut left = number;
-    for i in 0..N {
-        digits[N - 1 - i] = b'0' + (left % 10) as u8;
+    // by index, since a proof knows no element behind an `iter_mut`
+    for place in (0..N).rev() {
+        digits[place] = b'0' + (left % 10) as u8;
         left /= 10;
     }
     digits

@@ -1,7 +1,7 @@
 -- Each turn writes one digit in front of the others.
-use Rattle.std.proofs.Common.{refl}
+use Rattle.std.proofs.Common.{refl, arith}
 use Rattle.report.proofs.Tens.{far_more}
 use Rattle.report.proofs.digits.decimal_digits.Goals as goal
 
-pub loop-i-preserved : goal.loop-i-preserved
-loop-i-preserved g c = far_more c.loop-i.digits c.args.number g.row.N c.loop-i.i c.loop-i.left _ c.loop-i-test.true refl c.loop-i.invariant
+pub loop-place-preserved : goal.loop-place-preserved
+loop-place-preserved g c = far_more c.loop-place.digits c.args.number g.row.N c.loop-place.place c.loop-place.left _ (omega (arith, c.loop-place-test.true)) c.loop-place.auto.place refl c.loop-place.invariant

@@ -1,6 +1,6 @@
--- The last digits so far are there.
+-- The digits from the place on are there.
 use Rattle.report.proofs.Tens.{DigitsFar}
 use Rattle.report.proofs.digits.decimal_digits.Given as goal
 
-abbrev pub invariant-loop-i : goal.invariant-loop-i
-invariant-loop-i g l = DigitsFar l.digits l.number g.row.N l.i l.left
+abbrev pub invariant-loop-place : goal.invariant-loop-place
+invariant-loop-place g l = DigitsFar l.digits l.number g.row.N l.place l.left
