@@ -1,5 +1,5 @@
--- A step's line is made of its pieces: the two-digit pieces have two digits.
-use Rattle.std.proofs.Common.{◌≡◌, ℕ, ◌+◌, Bool, true, false, cond, ltb, List, [], ◌∷◌, ◌++◌, length, get_or, Some, None, Option, refl, ap, ◌∙◌, arith, length-append}
+-- How long the pieces of a step's line are, and the line.
+use Rattle.std.proofs.Common.{◌≡◌, ℕ, ◌+◌, Bool, true, false, cond, ltb, List, [], ◌∷◌, ◌++◌, length, Some, None, Option, refl, arith, length-append}
 use Rattle.protocol.specs.declared.steps.Step.{Step}
 use Rattle.protocol.specs.declared.steps.Step.TheVariants.{Load, Store, Acquire, Release, Evict, Move}
 use Rattle.protocol.specs.declared.steps.Ended.{Ended}
@@ -9,27 +9,21 @@ use Rattle.races.specs.declared.outcomes.Outcome.TheVariants.{Refused, Waits, En
 use Rattle.races.specs.Table.{mark_of}
 use Rattle.report.specs.Lines.{outcome_letter, shown_call, core_shown, call_letter, byte_of_ended, byte_shown, mark_shown, refusal_shown, space, line_end, step_line}
 
-two_digits : (b : List ℕ) → length b ≡ 2 → get_or b 0 0 ∷ (get_or b 1 0 ∷ []) ≡ b
-two_digits [] h = absurd (omega arith)
-two_digits (x ∷ []) h = absurd (omega arith)
-two_digits (x ∷ (y ∷ [])) h = refl
-two_digits (x ∷ (y ∷ (z ∷ zs))) h = absurd (omega arith)
-
-pub ended_two : (x : Ended) → length (byte_of_ended x) ≡ 2
+ended_two : (x : Ended) → length (byte_of_ended x) ≡ 2
 ended_two (Loaded c a b) = refl
 ended_two (Stored c a b) = refl
 ended_two (Acquired c) = refl
 ended_two (Released c) = refl
 ended_two (Evicted c l) = refl
 
-pub byte_two : (r : Outcome) → length (byte_shown r) ≡ 2
+byte_two : (r : Outcome) → length (byte_shown r) ≡ 2
 byte_two (Refused e) = refl
 byte_two Waits = refl
 byte_two (HasEnded x race) = ended_two x
 byte_two Moved = refl
 byte_two (Finished x race) = ended_two x
 
-pub refusal_two : (r : Outcome) → length (refusal_shown r) ≡ 2
+refusal_two : (r : Outcome) → length (refusal_shown r) ≡ 2
 refusal_two (Refused e) = refl
 refusal_two Waits = refl
 refusal_two (HasEnded x race) = refl
@@ -37,14 +31,8 @@ refusal_two Moved = refl
 refusal_two (Finished x race) = refl
 
 -- The line of given pieces.
-abbrev pub joined : List ℕ → List ℕ → List ℕ → List ℕ → List ℕ → List ℕ → List ℕ
+abbrev joined : List ℕ → List ℕ → List ℕ → List ℕ → List ℕ → List ℕ → List ℕ
 joined o c l b m f = o ++ (space ++ (c ++ (space ++ (l ++ (space ++ (b ++ (space ++ (m ++ (space ++ (f ++ line_end))))))))))
-
-pub pieces : (o c l m : ℕ) (b f : List ℕ) (os cs ls bs ms fs : List ℕ) → o ∷ [] ≡ os → c ∷ [] ≡ cs → l ∷ [] ≡ ls → b ≡ bs → m ∷ [] ≡ ms → f ≡ fs → length bs ≡ 2 → length fs ≡ 2 → joined (o ∷ []) (c ∷ []) (l ∷ []) (get_or b 0 0 ∷ (get_or b 1 0 ∷ [])) (m ∷ []) (get_or f 0 0 ∷ (get_or f 1 0 ∷ [])) ≡ joined os cs ls bs ms fs
-pieces o c l m b f os cs ls bs ms fs e₁ e₂ e₃ e₄ e₅ e₆ n k =
-    let b_is : get_or b 0 0 ∷ (get_or b 1 0 ∷ []) ≡ bs = two_digits b (ap length e₄ ∙ n) ∙ e₄ in
-    let f_is : get_or f 0 0 ∷ (get_or f 1 0 ∷ []) ≡ fs = two_digits f (ap length e₆ ∙ k) ∙ e₆ in
-    λ i. joined (e₁ i) (e₂ i) (e₃ i) (b_is i) (e₅ i) (f_is i)
 
 one_if : (t : Bool) (x y : ℕ) → length (cond t (x ∷ []) (y ∷ [])) ≡ 1
 one_if true x y = refl

@@ -2,7 +2,7 @@
 use Rattle.std.proofs.Common.{◌≡◌, ℕ, zero, suc, ◌+◌, ◌-◌, ◌<◌, ◌≤◌, Bool, true, false, cond, ltb, List, [], ◌∷◌, ◌++◌, length, drop, IsErrAnd, Some, None, Ok, Err, Option, Result, sym, refl, ap, ◌∙◌, subst, arith}
 use mathlib.Core.Path.{transport}
 use Rattle.std.proofs.lemmas.Result.{err_from_is_err_and}
-use Rattle.std.proofs.lemmas.List.{append-nil, append_assoc, length-append, length-drop, drop-drop}
+use Rattle.std.proofs.lemmas.List.{append-nil, append_assoc, length-append, drop-drop}
 use Rattle.std.proofs.lemmas.Bool.{cond-false, le-ltb}
 use Rattle.protocol.specs.declared.steps.Step.{Step}
 use Rattle.bench.specs.declared.faults.Cause.TheVariants.{TooLong}
@@ -89,9 +89,6 @@ module _ (want : Result (List Step) Fault) (file : List ℕ) (p : ℕ) (ks : Lis
             ∙ (before_step ks k (on (drop (size_of r) (drop p file)))
             ∙ ap (λ (xs : List ℕ). before (ks ++ (k ∷ [])) (on xs)) (drop-drop (size_of r) p file)))),
       )
-
-  pub going_less : (r : Found) (file' : List ℕ) (p' : ℕ) → Ok (Some r) ≡ next_record p file → file' ≡ file → p' ≡ p + size_of r → length file' - p' < length file - p
-  going_less r file' p' e f q = omega (arith, (going_sound r e).within, length-drop p file, ap length f)
 
   pub going_again : (r : Found) (k : Step) (file' : List ℕ) (p' : ℕ) (ks' : List Step) → Ok (Some r) ≡ next_record p file → Ok k ≡ step_in r → length ks < most_steps → file' ≡ file → p' ≡ p + size_of r → ks' ≡ ks ++ (k ∷ []) → Going want file' p' ks'
   going_again r k file' p' ks' e f few file_is p_is ks_is = transport (λ i. Going want (sym file_is i) (sym p_is i) (sym ks_is i)) (going_on r k e f few)

@@ -1,7 +1,7 @@
 -- Each record carries the reading on, or ends it as the rules say.
 use Rattle.std.proofs.Common.{Err, vec_items, sym, ap, ◌∙◌, arith}
 use Rattle.study_file.specs.Records.{held}
-use Rattle.study_file.proofs.Planning.{going_end, going_fault, going_bad, going_full, going_less, going_again, handed, handed_place, fault_exit}
+use Rattle.study_file.proofs.Planning.{going_end, going_fault, going_bad, going_full, going_again, handed, handed_place, fault_exit}
 use Rattle.study_file.proofs.plans.read_steps.Goals as goal
 
 pub returns-in_err-record : goal.returns-in_err-record
@@ -18,11 +18,6 @@ pub returns-then-len-eq-MOST_STEPS : goal.returns-then-len-eq-MOST_STEPS
 returns-then-len-eq-MOST_STEPS c =
     going_full _ _ _ _ c.loop-steps.invariant (held c.in-Some.record) c.in_ok-step.step (handed _ _ _ c.in-Some.is c.in_ok-record.ensures.next) c.in_ok-step.ensures
     (omega (arith, c.loop-steps.steps.ok.0)) ∙ ap Err (sym c.fault.ensures)
-
-pub loop-steps-smaller : goal.loop-steps-smaller
-loop-steps-smaller c =
-    going_less _ _ _ _ c.loop-steps.invariant (held c.in-Some.record) _ _ (handed _ _ _ c.in-Some.is c.in_ok-record.ensures.next) c.next_record.ensures.file
-    (handed_place _ _ _ _ c.in-Some.is c.in_ok-record.ensures.place)
 
 pub loop-steps-preserved : goal.loop-steps-preserved
 loop-steps-preserved c =
