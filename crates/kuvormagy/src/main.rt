@@ -12,76 +12,61 @@ use study_file::Failure;
 use study_run::run_file;
 
 /// One byte more than a file may have: no more is read.
-const MOST_READ: usize = 32769;
+const MOST_READ: u64 = 32769;
 
 /// A report of 4,096 steps has so many bytes, and no report has more.
 const MOST_PRINTED: usize = 57507;
 
-/// What is to be printed.
-pub enum Text {
-    /// So many bytes from the start of the buffer.
-    Report(usize),
-    /// The line of a fault.
+/// Why there is no report.
+#[derive(Clone, Copy, PartialEq, Eq, Debug)]
+pub enum NoReport {
+    /// The file has a fault: the line that is printed for it.
     FaultLine([u8; 29]),
     /// There is no memory for the steps.
     OutOfMemory,
 }
 
-/// Runs a file, with the report in the start of the buffer.
-fn text_of(heap: Global, file: &[u8], page: &mut [u8]) -> Text
+impl From<Failure> for NoReport {
+    ghost use Rattle.kuvormagy.specs.Text.{no_report};
+    ghost use Rattle.std.specs.Prelude.{◌≡◌};
+
+    ghost from_gives = { λ f r. r ≡ no_report f };
+
+    fn from(failure: Failure) -> NoReport {
+        match failure {
+            Failure::Fault(fault) => NoReport::FaultLine(fault_line(fault)),
+            Failure::OutOfMemory => NoReport::OutOfMemory,
+        }
+    }
+}
+
+/// Runs a file. The report fills the start of the page, and its length is answered.
+fn text_of(heap: Global, file: &[u8], page: &mut [u8]) -> Result<usize, NoReport>
     ensures { Says file.now page.old result page.new }
 {
-    match run_file(heap, file, page) {
-        Ok(length) => Text::Report(length),
-        Err(Failure::Fault(fault)) => Text::FaultLine(fault_line(fault)),
-        Err(Failure::OutOfMemory) => Text::OutOfMemory,
-    }
+    Ok(run_file(heap, file, page)?)
 }
 
-/// Reads standard input into the buffer, until it ends or the buffer is full. Answers how many bytes were read.
-fn read_input(rt: &HostRuntime, buffer: &mut [u8]) -> anyhow::Result<usize> {
-    let mut length = 0;
-    for _ in 0..MOST_READ {
-        if length >= buffer.len() {
-            break;
-        }
-        let count = rt.stdin().read(&mut buffer[length..])?;
-        if count == 0 {
-            break;
-        }
-        length += count;
-    }
-    Ok(length)
-}
-
-/// Prints the report of the file on standard input, or the line of its fault. Answers whether it was a report.
-fn print_study(rt: &HostRuntime) -> anyhow::Result<bool> {
-    let mut input = vec![in rt.alloc(); 0u8; MOST_READ]?;
+/// Prints the report of the file on standard input, or the line of its fault, which ends with status 1.
+fn print_study(rt: &HostRuntime) -> anyhow::Result<ExitCode> {
+    let mut file = Vec::new(rt.alloc());
+    rt.stdin().take(MOST_READ).read_to_end(&mut file)?;
     let mut page = vec![in rt.alloc(); 0u8; MOST_PRINTED]?;
-    let length = read_input(rt, &mut input)?;
-    let Some(file) = input.as_slice().get(0..length) else {
-        return Err(anyhow!("standard input is longer than the buffer"));
-    };
-    match text_of(rt.alloc(), file, &mut page) {
-        Text::Report(length) => {
-            if let Some(report) = page.as_slice().get(0..length) {
-                rt.stdout().write_all(report)?;
-            }
-            Ok(true)
+    match text_of(rt.alloc(), file.as_slice(), &mut page) {
+        Ok(length) => {
+            page.truncate(length);
+            rt.stdout().write_all(page.as_slice())?;
+            Ok(ExitCode::SUCCESS)
         }
-        Text::FaultLine(line) => {
+        Err(NoReport::FaultLine(line)) => {
             rt.stdout().write_all(&line)?;
-            Ok(false)
+            Ok(ExitCode::FAILURE)
         }
-        Text::OutOfMemory => Err(anyhow!("out of memory")),
+        Err(NoReport::OutOfMemory) => Err(anyhow!("out of memory")),
     }
 }
 
-/// A fault ends with status 1 and nothing on standard error; what else goes wrong is said there.
+/// A fault says nothing on standard error; what else goes wrong is said there.
 fn main(rt: HostRuntime) -> anyhow::Result<ExitCode> {
-    if print_study(&rt)? {
-        Ok(ExitCode::SUCCESS)
-    } else {
-        Ok(ExitCode::FAILURE)
-    }
+    print_study(&rt)
 }
