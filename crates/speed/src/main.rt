@@ -10,9 +10,10 @@ use protocol::{Protocol, Step};
 use races::Outcome;
 use std::env;
 use std::io::Read;
+use std::str::FromStr;
 use std::time::Instant;
 use store_buffer::StoreBuffer;
-use study_file::{Code, Plan, read};
+use study_file::{Code, read};
 use study_run::run_file;
 
 /// How a study is made: its steps as one run; each of its core calls and then a settling; or the whole file, from its bytes to its report.
@@ -23,6 +24,10 @@ enum Way {
     File,
 }
 
+/// A word that asks for no way.
+#[derive(Clone, Copy)]
+struct NoWay;
+
 /// The shortest time that is measured.
 const SHORTEST: u128 = 300_000_000;
 
@@ -30,17 +35,34 @@ const SHORTEST: u128 = 300_000_000;
 const ROUNDS: u32 = 10_000_000;
 
 /// A file has at most so many bytes, and its report at most so many.
-const MOST_READ: usize = 32768;
+const MOST_READ: u64 = 32768;
 
 const MOST_PRINTED: usize = 57507;
 
-/// Makes the steps as one run, and answers how many those are.
-fn run<P: Protocol>(bench: &mut Bench<P>, steps: &[Step], outcomes: &mut [Outcome]) -> usize {
-    bench.set_up();
-    match bench.run(steps, outcomes) {
-        Ok(()) => steps.len(),
-        Err(_) => 0,
+impl FromStr for Way {
+    type Err = NoWay;
+
+    fn from_str(word: &str) -> Result<Way, NoWay> {
+        match word {
+            "run" => Ok(Way::Run),
+            "settle" => Ok(Way::Settle),
+            "file" => Ok(Way::File),
+            _ => Err(NoWay),
+        }
     }
+}
+
+/// Makes the steps as one run, and answers how many those are.
+fn run<P: Protocol>(
+    bench: &mut Bench<P>,
+    steps: &[Step],
+    outcomes: &mut [Outcome],
+) -> anyhow::Result<usize> {
+    bench.set_up();
+    bench
+        .run(steps, outcomes)
+        .map_err(|_| anyhow!("the study does not fit"))?;
+    Ok(steps.len())
 }
 
 /// Makes each step and then a settling, and answers how many steps and moves that were.
@@ -57,30 +79,21 @@ fn settle<P: Protocol>(bench: &mut Bench<P>, steps: &[Step], outcomes: &mut [Out
 
 /// Thousands of steps a second.
 fn thousands(steps: u64, nanoseconds: u128) -> u128 {
-    if nanoseconds == 0 {
-        return 0;
-    }
-    (steps as u128).saturating_mul(1_000_000) / nanoseconds
+    u128::from(steps)
+        .saturating_mul(1_000_000)
+        .checked_div(nanoseconds)
+        .unwrap_or(0)
 }
 
-/// Makes the study again and again, and answers thousands of steps a second.
-fn timed<P: Protocol + Drop>(
-    rt: &HostRuntime,
-    protocol: P,
-    steps: &[Step],
-    outcomes: &mut [Outcome],
-    way: Way,
-) -> anyhow::Result<u128> {
-    let mut bench = Bench::new(protocol);
+/// Makes a study again and again, and answers thousands of steps a second. The closure makes it once, and answers how many steps it has.
+fn timed<F: FnMut() -> anyhow::Result<usize>>(rt: &HostRuntime, mut make: F) -> anyhow::Result<u128>
+    requires { F.IsAlwaysCallable make }
+{
     let mut made: u64 = 0;
     let mut taken = 0;
     let start = Instant::now(rt)?;
     for _ in 0..ROUNDS {
-        let once = match way {
-            Way::Settle => settle(&mut bench, steps, outcomes),
-            Way::Run | Way::File => run(&mut bench, steps, outcomes),
-        };
-        made = made.saturating_add(once as u64);
+        made = made.saturating_add(make()? as u64);
         taken = start.elapsed(rt)?.as_nanos();
         if taken >= SHORTEST {
             break;
@@ -89,118 +102,59 @@ fn timed<P: Protocol + Drop>(
     Ok(thousands(made, taken))
 }
 
-/// Runs the whole file again and again.
-fn timed_file(
+/// The way that the last word asks for that asks for one.
+fn way_asked(rt: &HostRuntime) -> anyhow::Result<Option<Way>> {
+    Ok(
+        env::args(rt)?
+            .filter_map(|word| word.as_str().parse().ok())
+            .last(),
+    )
+}
+
+/// Makes a study over a protocol and prints how fast that was, or, where no way is asked for, how many steps it has each way.
+fn make<P: Protocol + Drop>(
     rt: &HostRuntime,
+    protocol: P,
     file: &[u8],
-    steps: usize,
-    page: &mut [u8],
-) -> anyhow::Result<u128> {
-    let mut made: u64 = 0;
-    let mut taken = 0;
-    let start = Instant::now(rt)?;
-    for _ in 0..ROUNDS {
-        if run_file(rt.alloc(), file, page).is_err() {
-            return Err(anyhow!("the file has a fault"));
-        }
-        made = made.saturating_add(steps as u64);
-        taken = start.elapsed(rt)?.as_nanos();
-        if taken >= SHORTEST {
-            break;
-        }
-    }
-    Ok(thousands(made, taken))
-}
-
-/// Reads standard input into the buffer, until it ends or the buffer is full.
-fn read_input(rt: &HostRuntime, buffer: &mut [u8]) -> anyhow::Result<usize> {
-    let mut length = 0;
-    for _ in 0..MOST_READ {
-        if length >= buffer.len() {
-            break;
-        }
-        let count = rt.stdin().read(&mut buffer[length..])?;
-        if count == 0 {
-            break;
-        }
-        length += count;
-    }
-    Ok(length)
-}
-
-/// Makes the study once as a run and once with settlings, and answers how many steps each had.
-fn counted<P: Protocol + Drop>(
-    protocol: P,
     steps: &[Step],
-    outcomes: &mut [Outcome],
-) -> (usize, usize) {
+    way: Option<Way>,
+) -> anyhow::Result<()> {
     let mut bench = Bench::new(protocol);
-    let ran = run(&mut bench, steps, outcomes);
-    (ran, settle(&mut bench, steps, outcomes))
-}
-
-/// Thousands of steps a second, made that way.
-fn measured(rt: &HostRuntime, file: &[u8], plan: &Plan, way: Way) -> anyhow::Result<u128> {
-    let steps = plan.steps.as_slice();
-    if let Way::File = way {
-        let mut page = vec![in rt.alloc(); 0u8; MOST_PRINTED]?;
-        return timed_file(rt, file, steps.len(), &mut page);
-    }
     let mut outcomes = vec![in rt.alloc(); Outcome::Waits; steps.len()]?;
-    match plan.code {
-        Code::Neat => timed(rt, Neat::new(), steps, &mut outcomes, way),
-        Code::Mesi => timed(rt, Mesi::new(), steps, &mut outcomes, way),
-        Code::BufferedNeat => timed(rt, StoreBuffer::new(Neat::new()), steps, &mut outcomes, way),
-        Code::BufferedMesi => timed(rt, StoreBuffer::new(Mesi::new()), steps, &mut outcomes, way),
-    }
-}
-
-/// How many steps the study has as a run, and how many with settlings.
-fn steps_of(rt: &HostRuntime, plan: &Plan) -> anyhow::Result<(usize, usize)> {
-    let steps = plan.steps.as_slice();
-    let mut outcomes = vec![in rt.alloc(); Outcome::Waits; steps.len()]?;
-    Ok(match plan.code {
-        Code::Neat => counted(Neat::new(), steps, &mut outcomes),
-        Code::Mesi => counted(Mesi::new(), steps, &mut outcomes),
-        Code::BufferedNeat => counted(StoreBuffer::new(Neat::new()), steps, &mut outcomes),
-        Code::BufferedMesi => counted(StoreBuffer::new(Mesi::new()), steps, &mut outcomes),
-    })
-}
-
-/// The way that the arguments ask for, or none.
-fn way_of(rt: &HostRuntime) -> anyhow::Result<Option<Way>> {
-    let mut way = None;
-    for word in env::args(rt)? {
-        match word.as_str() {
-            "run" => way = Some(Way::Run),
-            "settle" => way = Some(Way::Settle),
-            "file" => way = Some(Way::File),
-            _ => {}
+    let speed = match way {
+        Some(Way::Run) => timed(rt, || run(&mut bench, steps, &mut outcomes))?,
+        Some(Way::Settle) => timed(rt, || Ok(settle(&mut bench, steps, &mut outcomes)))?,
+        Some(Way::File) => {
+            let mut page = vec![in rt.alloc(); 0u8; MOST_PRINTED]?;
+            timed(rt, || {
+                run_file(rt.alloc(), file, &mut page).map_err(|_| anyhow!("the file has a fault"))?;
+                Ok(steps.len())
+            })?
         }
-    }
-    Ok(way)
+        None => {
+            let ran = run(&mut bench, steps, &mut outcomes)?;
+            let settled = settle(&mut bench, steps, &mut outcomes);
+            println!(rt; "{ran} steps as a run, {settled} with settlings")?;
+            return Ok(());
+        }
+    };
+    println!(rt; "{speed}")?;
+    Ok(())
 }
 
 fn report(rt: &HostRuntime) -> anyhow::Result<()> {
-    let mut input = vec![in rt.alloc(); 0u8; MOST_READ]?;
-    let length = read_input(rt, &mut input)?;
-    let Some(file) = input.as_slice().get(0..length) else {
-        return Err(anyhow!("standard input is longer than the buffer"));
-    };
-    let Ok(plan) = read(rt.alloc(), file) else {
-        return Err(anyhow!("the file has a fault"));
-    };
-    match way_of(rt)? {
-        Some(way) => {
-            let speed = measured(rt, file, &plan, way)?;
-            println!(rt; "{speed}")?;
-        }
-        None => {
-            let (ran, settled) = steps_of(rt, &plan)?;
-            println!(rt; "{ran} steps as a run, {settled} with settlings")?;
-        }
+    let mut input = Vec::new(rt.alloc());
+    rt.stdin().take(MOST_READ).read_to_end(&mut input)?;
+    let file = input.as_slice();
+    let plan = read(rt.alloc(), file).map_err(|_| anyhow!("the file has a fault"))?;
+    let steps = plan.steps.as_slice();
+    let way = way_asked(rt)?;
+    match plan.code {
+        Code::Neat => make(rt, Neat::new(), file, steps, way),
+        Code::Mesi => make(rt, Mesi::new(), file, steps, way),
+        Code::BufferedNeat => make(rt, StoreBuffer::new(Neat::new()), file, steps, way),
+        Code::BufferedMesi => make(rt, StoreBuffer::new(Mesi::new()), file, steps, way),
     }
-    Ok(())
 }
 
 fn main(rt: HostRuntime) -> anyhow::Result<()> {
