@@ -1,124 +1,364 @@
-//! The bytes of lists, taken one after the other.
+//! The bytes of lists, taken one after the other, and the requests that they say.
 
-use bench::Request;
+ghost use Rattle.std.specs.Prelude.{◌≡◌, ◌↔◌, ◌<◌, ◌≤◌, List, ℕ, [], ◌∷◌, length, IsTrue, OnOk, OnErr, IfOk};
+ghost use Rattle.std.specs.Iterator.{at_most};
+
+use crate::stops::Stop;
 use protocol::Step;
-use std::alloc::{AllocError, Global};
+use std::alloc::Global;
+use std::marker::Model;
+use study_file::Kind;
 
-/// What is still to be read.
+/// What is still to be read of some bytes.
 #[derive(Drop)]
 pub struct Rest<'a> {
     bytes: &'a [u8],
-    place: usize,
+}
+
+/// The lists of an input, each behind its length as four bytes, the low one first. Where the input ends inside a length or a list, the last
+/// one is broken.
+#[derive(Drop)]
+pub struct Lists<'a> {
+    rest: Rest<'a>,
+}
+
+/// The requests of a list.
+#[derive(Drop)]
+pub struct Requests<'a> {
+    heap: Global,
+    rest: Rest<'a>,
+}
+
+/// The protocol at the bottom.
+#[derive(Clone, Copy, PartialEq, Eq, Debug)]
+pub enum Base {
+    Neat,
+    Mesi,
+}
+
+/// How many store buffers stand over it.
+#[derive(Clone, Copy, PartialEq, Eq, Debug)]
+pub enum Buffers {
+    None,
+    One,
+    Two,
+}
+
+/// A request of a list.
+#[derive(Drop)]
+pub enum Request<'a> {
+    Step(Step),
+    Run {
+        steps: Vec<Step>,
+        room: u8,
+    },
+    Settle {
+        room: u8,
+    },
+    Image {
+        address: u8,
+    },
+    NextOpen {
+        place: u8,
+    },
+    Counts,
+    SetUp,
+    Write {
+        code: u8,
+        room: u16,
+        steps: Vec<Step>,
+    },
+    Report {
+        room: u16,
+        file: &'a [u8],
+    },
+    Study {
+        steps: Vec<Step>,
+        parts: Vec<Part>,
+        answers: u8,
+        room: u8,
+    },
+}
+
+/// A request of a whole study.
+#[derive(Clone, Copy)]
+pub enum Part {
+    /// The step of that position among the study's.
+    Step { at: u8 },
+    /// So many steps from a position on.
+    Run { from: u8, count: u8, room: u8 },
+    Settle { room: u8 },
+    Image { address: u8 },
+    NextOpen { place: u8 },
+}
+
+/// What a list says some of, one behind the other.
+trait Item: Sized {
+    /// The next one.
+    fn next(rest: &mut Rest) -> Result<Self, Stop>
+        ensures { length rest.new ≤ length rest.old };
+}
+
+impl TryFrom<u8> for Base {
+    type Error = Stop;
+
+    fn try_from(number: u8) -> Result<Base, Stop> {
+        match number {
+            1 => Ok(Base::Neat),
+            2 => Ok(Base::Mesi),
+            _ => Err(Stop::Broken),
+        }
+    }
+}
+
+impl TryFrom<u8> for Buffers {
+    type Error = Stop;
+
+    fn try_from(number: u8) -> Result<Buffers, Stop> {
+        match number {
+            0 => Ok(Buffers::None),
+            1 => Ok(Buffers::One),
+            2 => Ok(Buffers::Two),
+            _ => Err(Stop::Broken),
+        }
+    }
+}
+
+impl<'a> Model for Rest<'a> {
+    ghost Value = { List ℕ };
+
+    ghost view = { λ r. r.bytes.now };
 }
 
 impl<'a> Rest<'a> {
-    pub fn new(bytes: &'a [u8]) -> Rest<'a> {
-        Rest { bytes, place: 0 }
+    pub fn new(bytes: &'a [u8]) -> Rest<'a>
+        ensures { result ≡ bytes.now }
+    {
+        Rest { bytes }
     }
 
-    /// Whether nothing is left.
-    pub fn is_over(&self) -> bool {
-        self.place >= self.bytes.len()
+    pub fn is_over(&self) -> bool
+        ensures { IsTrue result ↔ (self.now ≡ []) }
+    {
+        self.bytes.is_empty()
     }
 
-    pub fn byte(&mut self) -> Option<u8> {
-        let byte = *self.bytes.get(self.place)?;
-        self.place = self.place.saturating_add(1);
-        Some(byte)
+    pub fn byte(&mut self) -> Result<u8, Stop>
+        ensures byte { IfOk result (λ b. self.old ≡ b ∷ self.new) }
+        ensures over { OnErr result ((self.old ≡ []) × (self.new ≡ [])) }
+        ensures shorter { OnOk result (length self.new < length self.old) }
+        ensures no_longer { length self.new ≤ length self.old }
+    {
+        self.bytes.split_off_first().copied().ok_or(Stop::Broken)
     }
 
     /// A number of two bytes, the low one first.
-    pub fn two_bytes(&mut self) -> Option<usize> {
-        let low = self.byte()?;
-        let high = self.byte()?;
-        Some(u16::from_le_bytes([low, high]) as usize)
+    fn two_bytes(&mut self) -> Result<u16, Stop>
+        ensures { length self.new ≤ length self.old }
+    {
+        Ok(u16::from_le_bytes([self.byte()?, self.byte()?]))
     }
 
     /// So many bytes.
-    pub fn part(&mut self, length: usize) -> Option<&'a [u8]> {
-        let bytes = self.bytes;
-        let end = self.place.checked_add(length)?;
-        let part = bytes.get(self.place..end)?;
-        self.place = end;
-        Some(part)
+    fn part(&mut self, count: usize) -> Result<&'a [u8], Stop>
+        ensures { length self.new ≤ length self.old }
+    {
+        self.bytes.split_off(..count).ok_or(Stop::Broken)
     }
 
-    /// A list, behind its length as four bytes.
-    pub fn list(&mut self) -> Option<&'a [u8]> {
-        let low = self.two_bytes()?;
-        let high = self.two_bytes()?;
-        let length = high.checked_mul(65536)?.checked_add(low)?;
-        self.part(length)
+    /// A list, behind its length.
+    fn list(&mut self) -> Result<&'a [u8], Stop>
+        requires { 0 < length self.old }
+        ensures { length self.new < length self.old }
+    {
+        let length = [self.byte()?, self.byte()?, self.byte()?, self.byte()?];
+        self.part(u32::from_le_bytes(length) as usize)
     }
 
-    /// A step: its kind, and its fields.
-    pub fn step(&mut self) -> Option<Step> {
-        let step = match self.byte()? {
-            2 => Step::Load {
-                core: self.byte()?,
-                address: self.byte()?,
-            },
-            3 => Step::Store {
-                core: self.byte()?,
-                address: self.byte()?,
-                byte: self.byte()?,
-            },
-            4 => Step::Acquire { core: self.byte()? },
-            5 => Step::Release { core: self.byte()? },
-            6 => Step::Evict {
-                core: self.byte()?,
-                line: self.byte()?,
-            },
-            7 => Step::Move {
-                place: self.byte()?,
-            },
-            _ => return None,
-        };
-        Some(step)
-    }
-
-    /// So many steps, or none where the list breaks off.
-    pub fn steps(&mut self, heap: Global, count: u8) -> Result<Option<Vec<Step>>, AllocError> {
-        let mut steps = Vec::with_capacity(heap, count as usize)?;
+    /// So many items.
+    fn items<T: Item + Drop>(&mut self, heap: Global, count: u8) -> Result<Vec<T>, Stop>
+        ensures { length self.new ≤ length self.old }
+    {
+        let mut items = Vec::with_capacity(heap, usize::from(count))?;
         for _ in 0..count {
-            let Some(step) = self.step() else {
-                return Ok(None);
-            };
-            steps.push(step)?;
+            items.push(T::next(self)?)?;
         }
-        Ok(Some(steps))
+        Ok(items)
     }
 
-    /// A request of a whole study, over its steps.
-    pub fn request<'b>(&mut self, steps: &'b [Step]) -> Option<Request<'b>> {
-        let request = match self.byte()? {
-            1 => {
-                let at = self.byte()? as usize;
-                Request::Step(match steps.get(at) {
-                    Some(step) => *step,
-                    None => Step::Move { place: 255 },
-                })
-            }
+    /// A request: the byte that says which it is, and its fields.
+    fn request(&mut self, heap: Global) -> Result<Request<'a>, Stop>
+        requires { 0 < length self.old }
+        ensures { length self.new < length self.old }
+    {
+        // A number is read where the request that it stands for is made: a kind between them would name each request twice.
+        Ok(match self.byte()? {
+            1 => Request::Step(Step::next(self)?),
             2 => {
-                let from = (self.byte()? as usize).min(steps.len());
-                let count = self.byte()? as usize;
-                let end = from.saturating_add(count).min(steps.len());
+                let (count, room) = (self.byte()?, self.byte()?);
                 Request::Run {
-                    steps: steps.get(from..end)?,
-                    room: self.byte()? as usize,
+                    steps: self.items(heap, count)?,
+                    room,
                 }
             }
-            3 => Request::Settle {
-                room: self.byte()? as usize,
-            },
+            3 => Request::Settle { room: self.byte()? },
             4 => Request::Image {
                 address: self.byte()?,
             },
             5 => Request::NextOpen {
                 place: self.byte()?,
             },
-            _ => return None,
-        };
-        Some(request)
+            6 => Request::Counts,
+            7 => Request::SetUp,
+            8 => {
+                let (code, room, count) = (self.byte()?, self.two_bytes()?, self.byte()?);
+                Request::Write {
+                    code,
+                    room,
+                    steps: self.items(heap, count)?,
+                }
+            }
+            9 => {
+                let (room, length) = (self.two_bytes()?, self.two_bytes()?);
+                Request::Report {
+                    room,
+                    file: self.part(usize::from(length))?,
+                }
+            }
+            10 => {
+                let count = self.byte()?;
+                let steps = self.items(heap, count)?;
+                let count = self.byte()?;
+                Request::Study {
+                    steps,
+                    parts: self.items(heap, count)?,
+                    answers: self.byte()?,
+                    room: self.byte()?,
+                }
+            }
+            _ => return Err(Stop::Broken),
+        })
+    }
+}
+
+impl Item for Step {
+    fn next(rest: &mut Rest) -> Result<Step, Stop> {
+        let kind = Kind::named(u16::from(rest.byte()?)).ok_or(Stop::Broken)?;
+        Ok(match kind {
+            Kind::Load => Step::Load {
+                core: rest.byte()?,
+                address: rest.byte()?,
+            },
+            Kind::Store => Step::Store {
+                core: rest.byte()?,
+                address: rest.byte()?,
+                byte: rest.byte()?,
+            },
+            Kind::Acquire => Step::Acquire { core: rest.byte()? },
+            Kind::Release => Step::Release { core: rest.byte()? },
+            Kind::Evict => Step::Evict {
+                core: rest.byte()?,
+                line: rest.byte()?,
+            },
+            Kind::Move => Step::Move {
+                place: rest.byte()?,
+            },
+            Kind::Protocol => return Err(Stop::Broken),
+        })
+    }
+}
+
+impl Item for Part {
+    fn next(rest: &mut Rest) -> Result<Part, Stop> {
+        Ok(match rest.byte()? {
+            1 => Part::Step { at: rest.byte()? },
+            2 => Part::Run {
+                from: rest.byte()?,
+                count: rest.byte()?,
+                room: rest.byte()?,
+            },
+            3 => Part::Settle { room: rest.byte()? },
+            4 => Part::Image {
+                address: rest.byte()?,
+            },
+            5 => Part::NextOpen {
+                place: rest.byte()?,
+            },
+            _ => return Err(Stop::Broken),
+        })
+    }
+}
+
+impl Part {
+    /// What the part asks of a bench, over the steps of its study.
+    pub fn over(self, steps: &[Step]) -> bench::Request<'_> {
+        match self {
+            Part::Step { at } => bench::Request::Step(
+                steps
+                    .get(usize::from(at))
+                    .copied()
+                    .unwrap_or(Step::Move { place: 255 }),
+            ),
+            Part::Run { from, count, room } => {
+                let steps = &steps[steps.len().min(usize::from(from))..];
+                bench::Request::Run {
+                    steps: &steps[..steps.len().min(usize::from(count))],
+                    room: usize::from(room),
+                }
+            }
+            Part::Settle { room } => bench::Request::Settle {
+                room: usize::from(room),
+            },
+            Part::Image { address } => bench::Request::Image { address },
+            Part::NextOpen { place } => bench::Request::NextOpen { place },
+        }
+    }
+}
+
+impl<'a> Lists<'a> {
+    pub fn new(bytes: &'a [u8]) -> Lists<'a>
+        ensures { result.rest ≡ bytes.now }
+    {
+        Lists {
+            rest: Rest::new(bytes),
+        }
+    }
+}
+
+impl<'a> Iterator for Lists<'a> {
+    type Item = Result<&'a [u8], Stop>;
+
+    ghost remaining = { λ s. at_most (length s.rest) };
+
+    fn next(&mut self) -> Option<Result<&'a [u8], Stop>> {
+        if self.rest.is_over() {
+            return None;
+        }
+        let list = self.rest.list();
+        if list.is_err() {
+            self.rest = Rest::new(&[]);
+        }
+        Some(list)
+    }
+}
+
+impl<'a> Requests<'a> {
+    pub fn new(heap: Global, rest: Rest<'a>) -> Requests<'a>
+        ensures { result.rest ≡ rest.entry }
+    {
+        Requests { heap, rest }
+    }
+}
+
+impl<'a> Iterator for Requests<'a> {
+    type Item = Result<Request<'a>, Stop>;
+
+    ghost remaining = { λ s. at_most (length s.rest) };
+
+    fn next(&mut self) -> Option<Result<Request<'a>, Stop>> {
+        if self.rest.is_over() {
+            return None;
+        }
+        Some(self.rest.request(self.heap))
     }
 }

@@ -2,16 +2,19 @@
 #![tactic(auto)]
 
 mod lists;
+mod stops;
 mod texts;
 
-use bench::{Answer, Bench, Request};
-use lists::Rest;
+use bench::{Answer, Bench};
+use lists::{Base, Buffers, Lists, Part, Request, Requests, Rest};
 use mesi::Mesi;
 use neat::Neat;
 use protocol::{Ended, Protocol, Step};
 use races::Outcome;
 use std::alloc::{AllocError, Global};
+use std::io;
 use std::io::{Read, Write};
+use stops::Stop;
 use store_buffer::{StoreBuffer, stacked};
 use study_file::{Failure, write};
 use study_run::run_file;
@@ -29,238 +32,155 @@ const UNTOUCHED: Outcome = Outcome::Ended {
 /// What fills every buffer that is handed in.
 const POISON: u8 = 0xee;
 
-/// The most bytes that are read.
-const MOST_READ: usize = 16_777_216;
-
-/// A run of some steps.
-fn run<P: Protocol>(
+/// A bench that the requests of a list are made on, and the text of what they come to.
+#[derive(Drop)]
+struct Desk<'a, P> {
     heap: Global,
-    bench: &mut Bench<P>,
-    rest: &mut Rest,
-    text: &mut Text,
-) -> Result<bool, AllocError> {
-    let (Some(count), Some(room)) = (rest.byte(), rest.byte()) else {
-        return Ok(false);
-    };
-    let Some(steps) = rest.steps(heap, count)? else {
-        return Ok(false);
-    };
-    let mut outcomes = vec![in heap; UNTOUCHED; room as usize]?;
-    text.ran(bench.run(steps.as_slice(), &mut outcomes))?;
-    text.outcomes(steps.as_slice(), outcomes.as_slice())?;
-    Ok(true)
+    bench: Bench<P>,
+    text: &'a mut Text,
 }
 
-/// A settle.
-fn settle<P: Protocol>(
-    heap: Global,
-    bench: &mut Bench<P>,
-    rest: &mut Rest,
-    text: &mut Text,
-) -> Result<bool, AllocError> {
-    let Some(room) = rest.byte() else {
-        return Ok(false);
-    };
-    let mut outcomes = vec![in heap; UNTOUCHED; room as usize]?;
-    let (moves, open) = bench.settle(&mut outcomes);
-    text.settled(moves, open)?;
-    text.outcomes(&[], outcomes.as_slice())?;
-    Ok(true)
-}
-
-/// A file that is written.
-fn written(heap: Global, rest: &mut Rest, text: &mut Text) -> Result<bool, AllocError> {
-    let (Some(code), Some(room), Some(count)) = (rest.byte(), rest.two_bytes(), rest.byte()) else {
-        return Ok(false);
-    };
-    let Some(steps) = rest.steps(heap, count)? else {
-        return Ok(false);
-    };
-    let mut buffer = vec![in heap; POISON; room]?;
-    match write(code, steps.as_slice(), &mut buffer) {
-        Ok(length) => text.counted("wrote ", length)?,
-        Err(fault) => text.fault(fault)?,
+impl<P: Protocol> Desk<'_, P> {
+    /// A run of some steps.
+    fn run(&mut self, steps: &[Step], room: u8) -> io::Result<()> {
+        let mut outcomes = vec![in self.heap; UNTOUCHED; usize::from(room)]?;
+        let answer = self.bench.run(steps, &mut outcomes);
+        self.text.ran(answer)?;
+        self.text.outcomes(steps, outcomes.as_slice())
     }
-    text.buffer(buffer.as_slice())?;
-    Ok(true)
-}
 
-/// A study file that is run.
-fn reported(heap: Global, rest: &mut Rest, text: &mut Text) -> Result<bool, AllocError> {
-    let (Some(room), Some(length)) = (rest.two_bytes(), rest.two_bytes()) else {
-        return Ok(false);
-    };
-    let Some(file) = rest.part(length) else {
-        return Ok(false);
-    };
-    let mut buffer = vec![in heap; POISON; room]?;
-    match run_file(heap, file, &mut buffer) {
-        Ok(length) => text.counted("report ", length)?,
-        Err(Failure::Fault(fault)) => text.fault(fault)?,
-        Err(Failure::OutOfMemory) => return Err(AllocError),
+    /// A settle.
+    fn settle(&mut self, room: u8) -> io::Result<()> {
+        let mut outcomes = vec![in self.heap; UNTOUCHED; usize::from(room)]?;
+        let (moves, open) = self.bench.settle(&mut outcomes);
+        self.text.settled(moves, open)?;
+        self.text.outcomes(&[], outcomes.as_slice())
     }
-    text.buffer(buffer.as_slice())?;
-    Ok(true)
-}
 
-/// The requests of a whole study, or none where the list breaks off.
-fn requests_of<'a>(
-    heap: Global,
-    rest: &mut Rest,
-    steps: &'a [Step],
-) -> Result<Option<Vec<Request<'a>>>, AllocError> {
-    let Some(parts) = rest.byte() else {
-        return Ok(None);
-    };
-    let mut requests = Vec::with_capacity(heap, parts as usize)?;
-    for _ in 0..parts {
-        let Some(request) = rest.request(steps) else {
-            return Ok(None);
-        };
-        requests.push(request)?;
-    }
-    Ok(Some(requests))
-}
-
-/// A whole study of some requests, in one call.
-fn answered<P: Protocol>(
-    heap: Global,
-    bench: &mut Bench<P>,
-    requests: &[Request],
-    rest: &mut Rest,
-    text: &mut Text,
-) -> Result<bool, AllocError> {
-    let (Some(said), Some(room)) = (rest.byte(), rest.byte()) else {
-        return Ok(false);
-    };
-    let mut answers = vec![in heap; Answer::Found(Some(255)); said as usize]?;
-    let mut outcomes = vec![in heap; UNTOUCHED; room as usize]?;
-    match bench.study(requests, &mut answers, &mut outcomes) {
-        Ok(count) => text.counted("study ", count)?,
-        Err(fault) => text.fault(fault)?,
-    }
-    for answer in answers.as_slice() {
-        text.answer(*answer)?;
-    }
-    text.outcomes(&[], outcomes.as_slice())?;
-    Ok(true)
-}
-
-/// A whole study: its steps, its requests, and the room for it.
-fn study<P: Protocol>(
-    heap: Global,
-    bench: &mut Bench<P>,
-    rest: &mut Rest,
-    text: &mut Text,
-) -> Result<bool, AllocError> {
-    let Some(count) = rest.byte() else {
-        return Ok(false);
-    };
-    let Some(steps) = rest.steps(heap, count)? else {
-        return Ok(false);
-    };
-    let Some(requests) = requests_of(heap, rest, steps.as_slice())? else {
-        return Ok(false);
-    };
-    answered(heap, bench, requests.as_slice(), rest, text)
-}
-
-/// One request, by the byte that it begins with. Answers whether it was one.
-fn request<P: Protocol>(
-    heap: Global,
-    bench: &mut Bench<P>,
-    kind: u8,
-    rest: &mut Rest,
-    text: &mut Text,
-) -> Result<bool, AllocError> {
-    match kind {
-        1 => {
-            let Some(step) = rest.step() else {
-                return Ok(false);
-            };
-            text.outcome(step, bench.step(step))?;
+    /// A file that is written.
+    fn write(&mut self, code: u8, room: u16, steps: &[Step]) -> io::Result<()> {
+        let mut buffer = vec![in self.heap; POISON; usize::from(room)]?;
+        match write(code, steps, &mut buffer) {
+            Ok(length) => self.text.counted("wrote", length)?,
+            Err(fault) => self.text.fault(fault)?,
         }
-        2 => return run(heap, bench, rest, text),
-        3 => return settle(heap, bench, rest, text),
-        4 => {
-            let Some(address) = rest.byte() else {
-                return Ok(false);
-            };
-            text.image(bench.image(address))?;
-        }
-        5 => {
-            let Some(place) = rest.byte() else {
-                return Ok(false);
-            };
-            text.next_open(bench.next_open(place))?;
-        }
-        6 => text.counts(bench.ended(), bench.first_race())?,
-        7 => {
-            bench.set_up();
-            text.line("set up")?;
-        }
-        8 => return written(heap, rest, text),
-        9 => return reported(heap, rest, text),
-        10 => return study(heap, bench, rest, text),
-        _ => return Ok(false),
+        self.text.buffer(buffer.as_slice())
     }
-    Ok(true)
+
+    /// A study file that is run.
+    fn report(&mut self, room: u16, file: &[u8]) -> io::Result<()> {
+        let mut buffer = vec![in self.heap; POISON; usize::from(room)]?;
+        match run_file(self.heap, file, &mut buffer) {
+            Ok(length) => self.text.counted("report", length)?,
+            Err(Failure::Fault(fault)) => self.text.fault(fault)?,
+            Err(Failure::OutOfMemory) => return Err(io::Error::from(AllocError)),
+        }
+        self.text.buffer(buffer.as_slice())
+    }
+
+    /// A whole study, in one call.
+    fn study(&mut self, steps: &[Step], parts: &[Part], answers: u8, room: u8) -> io::Result<()> {
+        let requests = parts
+            .iter()
+            .map(|part| part.over(steps))
+            .collect::<Vec<_>>(self.heap)?;
+        let mut answers = vec![in self.heap; Answer::Found(Some(255)); usize::from(answers)]?;
+        let mut outcomes = vec![in self.heap; UNTOUCHED; usize::from(room)]?;
+        let made = self
+            .bench
+            .study(requests.as_slice(), &mut answers, &mut outcomes);
+        match made {
+            Ok(count) => self.text.counted("study", count)?,
+            Err(fault) => self.text.fault(fault)?,
+        }
+        for answer in answers.as_slice() {
+            self.text.answer(*answer)?;
+        }
+        self.text.outcomes(&[], outcomes.as_slice())
+    }
+
+    /// One request.
+    fn make(&mut self, request: Request) -> io::Result<()> {
+        match request {
+            Request::Step(step) => self.text.outcome(step, self.bench.step(step)),
+            Request::Run { steps, room } => self.run(steps.as_slice(), room),
+            Request::Settle { room } => self.settle(room),
+            Request::Image { address } => self.text.image(self.bench.image(address)),
+            Request::NextOpen { place } => self.text.next_open(self.bench.next_open(place)),
+            Request::Counts => self
+                .text
+                .counts(self.bench.ended(), self.bench.first_race()),
+            Request::SetUp => {
+                self.bench.set_up();
+                self.text.line("set up")
+            }
+            Request::Write { code, room, steps } => self.write(code, room, steps.as_slice()),
+            Request::Report { room, file } => self.report(room, file),
+            Request::Study {
+                steps,
+                parts,
+                answers,
+                room,
+            } => self.study(steps.as_slice(), parts.as_slice(), answers, room),
+        }
+    }
 }
 
 /// All requests of a list, over a protocol.
-fn list<P: Protocol + Drop>(
+fn make_all<P: Protocol + Drop>(
     heap: Global,
     protocol: P,
-    rest: &mut Rest,
+    requests: Requests,
     text: &mut Text,
-) -> Result<(), AllocError> {
-    let mut bench = Bench::new(protocol);
-    for _ in 0..MOST_READ {
-        let Some(kind) = rest.byte() else {
-            break;
-        };
-        if !request(heap, &mut bench, kind, rest, text)? {
-            text.line("broken")?;
-            break;
-        }
+) -> Result<(), Stop> {
+    let mut desk = Desk {
+        heap,
+        bench: Bench::new(protocol),
+        text,
+    };
+    for request in requests {
+        desk.make(request?)?;
     }
     Ok(())
 }
 
 /// A list, over the protocol that it names.
-fn make(heap: Global, bytes: &[u8], text: &mut Text) -> Result<(), AllocError> {
-    let mut rest = Rest::new(bytes);
-    let (Some(base), Some(buffers)) = (rest.byte(), rest.byte()) else {
-        return text.line("broken");
-    };
-    if base < 1 || base > 2 || buffers > 2 {
-        return text.line("broken");
-    }
+fn make(heap: Global, list: &[u8], text: &mut Text) -> Result<(), Stop> {
+    let mut rest = Rest::new(list);
+    let (base, buffers) = (rest.byte()?, rest.byte()?);
+    let protocol = (Base::try_from(base)?, Buffers::try_from(buffers)?);
     text.heading(base, buffers)?;
-    match (base, buffers) {
-        (1, 0) => list(heap, Neat::new(), &mut rest, text),
-        (2, 0) => list(heap, Mesi::new(), &mut rest, text),
-        (1, 1) => list(heap, StoreBuffer::new(Neat::new()), &mut rest, text),
-        (2, 1) => list(heap, StoreBuffer::new(Mesi::new()), &mut rest, text),
-        (1, _) => list(heap, stacked(Neat::new()), &mut rest, text),
-        _ => list(heap, stacked(Mesi::new()), &mut rest, text),
+    let requests = Requests::new(heap, rest);
+    match protocol {
+        (Base::Neat, Buffers::None) => make_all(heap, Neat::new(), requests, text),
+        (Base::Mesi, Buffers::None) => make_all(heap, Mesi::new(), requests, text),
+        (Base::Neat, Buffers::One) => {
+            make_all(heap, StoreBuffer::new(Neat::new()), requests, text)
+        }
+        (Base::Mesi, Buffers::One) => {
+            make_all(heap, StoreBuffer::new(Mesi::new()), requests, text)
+        }
+        (Base::Neat, Buffers::Two) => make_all(heap, stacked(Neat::new()), requests, text),
+        (Base::Mesi, Buffers::Two) => make_all(heap, stacked(Mesi::new()), requests, text),
     }
+}
+
+/// The text of a list.
+fn text_of(heap: Global, list: Result<&[u8], Stop>) -> io::Result<Text> {
+    let mut text = Text::new(heap);
+    match list.and_then(|bytes| make(heap, bytes, &mut text)) {
+        Ok(()) => {}
+        Err(Stop::Broken) => text.line("broken")?,
+        Err(Stop::Io(error)) => return Err(error),
+    }
+    Ok(text)
 }
 
 fn answer(rt: &HostRuntime) -> anyhow::Result<()> {
     let mut input = Vec::new(rt.alloc());
     rt.stdin().read_to_end(&mut input)?;
-    let mut lists = Rest::new(input.as_slice());
-    for _ in 0..MOST_READ {
-        if lists.is_over() {
-            break;
-        }
-        let Some(bytes) = lists.list() else {
-            rt.stdout().write_all(b"broken\n")?;
-            break;
-        };
-        let mut text = Text::new(rt.alloc());
-        make(rt.alloc(), bytes, &mut text)?;
+    for list in Lists::new(input.as_slice()) {
+        let text = text_of(rt.alloc(), list)?;
         rt.stdout().write_all(text.as_bytes())?;
     }
     Ok(())

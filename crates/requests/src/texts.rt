@@ -4,8 +4,10 @@ use bench::{Answer, Fault};
 use printing::fault_line;
 use protocol::{Refusal, Step};
 use races::Outcome;
-use report::{byte_digits, decimal_digits, ended_line, step_line};
-use std::alloc::{AllocError, Global};
+use report::{ended_line, step_line};
+use std::alloc::Global;
+use std::io::Write;
+use std::{io, iter};
 
 #[derive(Drop)]
 pub struct Text {
@@ -23,107 +25,74 @@ impl Text {
         self.bytes.as_slice()
     }
 
-    fn put(&mut self, bytes: &[u8]) -> Result<(), AllocError> {
-        self.bytes.extend_from_slice(bytes)
+    pub fn line(&mut self, words: &str) -> io::Result<()> {
+        writeln!(self.bytes, "{words}")
     }
 
-    pub fn line(&mut self, words: &str) -> Result<(), AllocError> {
-        self.put(words.as_bytes())?;
-        self.put(b"\n")
-    }
-
-    /// A list's protocol and its number of buffers, each to base ten.
-    pub fn heading(&mut self, base: u8, buffers: u8) -> Result<(), AllocError> {
-        self.put(b"list ")?;
-        self.small(base)?;
-        self.put(b" ")?;
-        self.small(buffers)?;
-        self.put(b"\n")
-    }
-
-    /// A byte to base ten, without leading zeros.
-    fn small(&mut self, byte: u8) -> Result<(), AllocError> {
-        if byte >= 100 {
-            self.put(&[b'0' + byte / 100])?;
-        }
-        if byte >= 10 {
-            self.put(&[b'0' + byte / 10 % 10])?;
-        }
-        self.put(&[b'0' + byte % 10])
+    /// A list's protocol and its number of buffers.
+    pub fn heading(&mut self, base: u8, buffers: u8) -> io::Result<()> {
+        writeln!(self.bytes, "list {base} {buffers}")
     }
 
     /// A word and a number of five digits.
-    pub fn counted(&mut self, word: &str, count: usize) -> Result<(), AllocError> {
-        self.put(word.as_bytes())?;
-        self.number(count)?;
-        self.put(b"\n")
+    pub fn counted(&mut self, word: &str, count: usize) -> io::Result<()> {
+        let shown = count.min(65535);
+        writeln!(self.bytes, "{word} {shown:05}")
     }
 
-    fn number(&mut self, count: usize) -> Result<(), AllocError> {
-        let shown = count.min(65535) as u16;
-        self.put(&decimal_digits(shown))
+    pub fn fault(&mut self, fault: Fault) -> io::Result<()> {
+        self.bytes.write_all(&fault_line(fault))
     }
 
-    pub fn fault(&mut self, fault: Fault) -> Result<(), AllocError> {
-        self.put(&fault_line(fault))
-    }
-
-    pub fn ran(&mut self, answer: Result<(), Fault>) -> Result<(), AllocError> {
+    pub fn ran(&mut self, answer: Result<(), Fault>) -> io::Result<()> {
         match answer {
             Ok(()) => self.line("run done"),
             Err(fault) => self.fault(fault),
         }
     }
 
-    pub fn settled(&mut self, moves: usize, open: bool) -> Result<(), AllocError> {
-        self.put(b"settle ")?;
-        self.number(moves)?;
-        self.line(if open { " open" } else { " shut" })
+    pub fn settled(&mut self, moves: usize, open: bool) -> io::Result<()> {
+        let shown = moves.min(65535);
+        let state = if open { "open" } else { "shut" };
+        writeln!(self.bytes, "settle {shown:05} {state}")
     }
 
-    pub fn image(&mut self, answer: Result<u8, Refusal>) -> Result<(), AllocError> {
+    pub fn image(&mut self, answer: Result<u8, Refusal>) -> io::Result<()> {
         match answer {
-            Ok(byte) => {
-                self.put(b"image ")?;
-                self.put(&byte_digits(byte))?;
-            }
+            Ok(byte) => writeln!(self.bytes, "image {byte:02x}"),
             Err(refusal) => {
-                self.put(b"image refused 0")?;
-                self.small(u8::from(refusal))?;
+                let number = u8::from(refusal);
+                writeln!(self.bytes, "image refused {number:02}")
             }
         }
-        self.put(b"\n")
     }
 
-    pub fn next_open(&mut self, answer: Option<u8>) -> Result<(), AllocError> {
+    pub fn next_open(&mut self, answer: Option<u8>) -> io::Result<()> {
         match answer {
-            Some(place) => self.counted("next ", place as usize),
+            Some(place) => self.counted("next", usize::from(place)),
             None => self.line("next none"),
         }
     }
 
-    pub fn counts(&mut self, ended: u16, first_race: u16) -> Result<(), AllocError> {
-        self.put(&ended_line(ended, first_race))
+    pub fn counts(&mut self, ended: u16, first_race: u16) -> io::Result<()> {
+        self.bytes.write_all(&ended_line(ended, first_race))
     }
 
-    pub fn outcome(&mut self, step: Step, outcome: Outcome) -> Result<(), AllocError> {
-        self.put(&step_line(step, outcome))
+    pub fn outcome(&mut self, step: Step, outcome: Outcome) -> io::Result<()> {
+        self.bytes.write_all(&step_line(step, outcome))
     }
 
     /// The outcomes of a list, each with the step of its position; past those, a move.
-    pub fn outcomes(&mut self, steps: &[Step], outcomes: &[Outcome]) -> Result<(), AllocError> {
-        for (index, outcome) in outcomes.iter().enumerate() {
-            let step = match steps.get(index) {
-                Some(step) => *step,
-                None => Step::Move { place: 0 },
-            };
+    pub fn outcomes(&mut self, steps: &[Step], outcomes: &[Outcome]) -> io::Result<()> {
+        let past = iter::repeat(Step::Move { place: 0 });
+        for (outcome, step) in outcomes.iter().zip(steps.iter().copied().chain(past)) {
             self.outcome(step, *outcome)?;
         }
         Ok(())
     }
 
     /// The answer of a whole study to one request.
-    pub fn answer(&mut self, answer: Answer) -> Result<(), AllocError> {
+    pub fn answer(&mut self, answer: Answer) -> io::Result<()> {
         match answer {
             Answer::Stepped(outcome) => self.outcome(Step::Move { place: 0 }, outcome),
             Answer::Ran(result) => self.ran(result),
@@ -134,10 +103,10 @@ impl Text {
     }
 
     /// A buffer, two digits for each byte.
-    pub fn buffer(&mut self, buffer: &[u8]) -> Result<(), AllocError> {
+    pub fn buffer(&mut self, buffer: &[u8]) -> io::Result<()> {
         for byte in buffer {
-            self.put(&byte_digits(*byte))?;
+            write!(self.bytes, "{byte:02x}")?;
         }
-        self.put(b"\n")
+        writeln!(self.bytes)
     }
 }
