@@ -45,7 +45,7 @@ pub fn hand_over(bench: &mut Bench<Mesi>) -> Outcome
 
 #[cfg(test)]
 mod tests {
-    use bench::{Bench, Cause, Fault, Layer};
+    use bench::{Bench, Cause, Layer};
     use mesi::Mesi;
     use neat::Neat;
     use protocol::{Protocol, Refusal, Step};
@@ -135,11 +135,7 @@ mod tests {
         let mut outcomes = [Outcome::Moved; 2];
         assert_eq!(rt;
             bench.run(&steps, &mut outcomes),
-            Err(Fault {
-                cause: Cause::TooFewOutcomes,
-                place: 0,
-                layer: Layer::Caller,
-            })
+            Err(Layer::Caller.fault(Cause::TooFewOutcomes, 0))
         );
         assert_eq!(rt; outcomes, [Outcome::Moved; 2]);
         assert_eq!(rt; bench.ended(), 0);
@@ -396,9 +392,9 @@ mod tests {
         let mut outcomes = [Outcome::Waits; 400];
         let mut bench = Bench::new(protocol);
         let byte = bench.hand_over(0, 1, 10, 0x41, &mut outcomes);
-        assert!(rt; byte == Some(0x41), "the byte was not handed over");
+        assert_eq!(rt; byte, Some(0x41), "the byte was not handed over");
         let none = bench.hand_over(0, 8, 10, 0x41, &mut outcomes);
-        assert!(rt; none == None, "there is no core 8");
+        assert_eq!(rt; none, None, "there is no core 8");
     }
 
     #[test]
@@ -417,9 +413,7 @@ mod tests {
         let _ = bench.store(0, 20, 0x42);
         assert_eq!(rt; bench.release(0), Outcome::Waits);
         let mut outcomes = [Outcome::Waits; 32];
-        let (moves, open) = bench.settle(&mut outcomes);
-        assert_eq!(rt; open, false);
-        assert_eq!(rt; moves, 8);
+        assert_eq!(rt; bench.settle(&mut outcomes), (8, false));
         assert_eq!(rt; bench.ended(), 3);
         assert_eq!(rt; bench.image(10), Ok(0x41));
         assert_eq!(rt; bench.image(20), Ok(0x42));

@@ -31,9 +31,9 @@ fn show<P: Protocol + Drop>(
     }];
     let mut answers = [Answer::Found(None); 1];
     let mut outcomes = [Outcome::Waits; 32];
-    if bench.study(&requests, &mut answers, &mut outcomes).is_err() {
-        return Err(anyhow!("the study is too long"));
-    }
+    bench
+        .study(&requests, &mut answers, &mut outcomes)
+        .map_err(|_| anyhow!("the study is too long"))?;
     rt.println(title)?;
     for (step, outcome) in steps.iter().zip(outcomes.iter()) {
         rt.stdout().write_all(&step_line(*step, *outcome))?;
