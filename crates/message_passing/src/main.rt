@@ -135,6 +135,7 @@ fn through_the_buffer() -> [Step; 16]
 }
 
 fn show_all(rt: &HostRuntime) -> anyhow::Result<()> {
+    // Four calls and no table of them, since each protocol is a type of its own.
     show(rt, "bus MESI", Mesi::new(), &on_the_bus())?;
     show(rt, "Neat", Neat::new(), &by_messages())?;
     show(

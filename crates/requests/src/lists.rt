@@ -2,6 +2,7 @@
 
 ghost use Rattle.std.specs.Prelude.{◌≡◌, ◌↔◌, ◌<◌, ◌≤◌, List, ℕ, [], ◌∷◌, length, IsTrue, OnOk, OnErr, IfOk};
 ghost use Rattle.std.specs.Iterator.{at_most};
+ghost use Rattle.requests.specs.Lists.{base_named, buffers_named};
 
 use crate::stops::Stop;
 use protocol::Step;
@@ -93,14 +94,16 @@ pub enum Part {
 }
 
 /// What a list says some of, one behind the other.
-trait Item: Sized {
+trait FromRest: Sized {
     /// The next one.
-    fn next(rest: &mut Rest) -> Result<Self, Stop>
+    fn from_rest(rest: &mut Rest) -> Result<Self, Stop>
         ensures { length rest.new ≤ length rest.old };
 }
 
 impl TryFrom<u8> for Base {
     type Error = Stop;
+
+    ghost try_from_gives = { λ number base. base ≡ base_named number };
 
     fn try_from(number: u8) -> Result<Base, Stop> {
         match number {
@@ -113,6 +116,8 @@ impl TryFrom<u8> for Base {
 
 impl TryFrom<u8> for Buffers {
     type Error = Stop;
+
+    ghost try_from_gives = { λ number buffers. buffers ≡ buffers_named number };
 
     fn try_from(number: u8) -> Result<Buffers, Stop> {
         match number {
@@ -176,12 +181,13 @@ impl<'a> Rest<'a> {
     }
 
     /// So many items.
-    fn items<T: Item + Drop>(&mut self, heap: Global, count: u8) -> Result<Vec<T>, Stop>
+    fn items<T: FromRest + Drop>(&mut self, heap: Global, count: u8) -> Result<Vec<T>, Stop>
         ensures { length self.new ≤ length self.old }
     {
+        // A loop: after a chain whose closure takes from the rest, no proof knows how much is left.
         let mut items = Vec::with_capacity(heap, usize::from(count))?;
         for _ in 0..count {
-            items.push(T::next(self)?)?;
+            items.push(T::from_rest(self)?)?;
         }
         Ok(items)
     }
@@ -193,7 +199,7 @@ impl<'a> Rest<'a> {
     {
         // A number is read where the request that it stands for is made: a kind between them would name each request twice.
         Ok(match self.byte()? {
-            1 => Request::Step(Step::next(self)?),
+            1 => Request::Step(Step::from_rest(self)?),
             2 => {
                 let (count, room) = (self.byte()?, self.byte()?);
                 Request::Run {
@@ -241,8 +247,8 @@ impl<'a> Rest<'a> {
     }
 }
 
-impl Item for Step {
-    fn next(rest: &mut Rest) -> Result<Step, Stop> {
+impl FromRest for Step {
+    fn from_rest(rest: &mut Rest) -> Result<Step, Stop> {
         let kind = Kind::named(u16::from(rest.byte()?)).ok_or(Stop::Broken)?;
         Ok(match kind {
             Kind::Load => Step::Load {
@@ -268,8 +274,8 @@ impl Item for Step {
     }
 }
 
-impl Item for Part {
-    fn next(rest: &mut Rest) -> Result<Part, Stop> {
+impl FromRest for Part {
+    fn from_rest(rest: &mut Rest) -> Result<Part, Stop> {
         Ok(match rest.byte()? {
             1 => Part::Step { at: rest.byte()? },
             2 => Part::Run {
@@ -286,32 +292,6 @@ impl Item for Part {
             },
             _ => return Err(Stop::Broken),
         })
-    }
-}
-
-impl Part {
-    /// What the part asks of a bench, over the steps of its study.
-    pub fn over(self, steps: &[Step]) -> bench::Request<'_> {
-        match self {
-            Part::Step { at } => bench::Request::Step(
-                steps
-                    .get(usize::from(at))
-                    .copied()
-                    .unwrap_or(Step::Move { place: 255 }),
-            ),
-            Part::Run { from, count, room } => {
-                let steps = &steps[steps.len().min(usize::from(from))..];
-                bench::Request::Run {
-                    steps: &steps[..steps.len().min(usize::from(count))],
-                    room: usize::from(room),
-                }
-            }
-            Part::Settle { room } => bench::Request::Settle {
-                room: usize::from(room),
-            },
-            Part::Image { address } => bench::Request::Image { address },
-            Part::NextOpen { place } => bench::Request::NextOpen { place },
-        }
     }
 }
 

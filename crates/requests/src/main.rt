@@ -32,6 +32,30 @@ const UNTOUCHED: Outcome = Outcome::Ended {
 /// What fills every buffer that is handed in.
 const POISON: u8 = 0xee;
 
+/// What a part of a whole study asks of a bench, over the steps of that study.
+fn asked(part: Part, steps: &[Step]) -> bench::Request<'_> {
+    match part {
+        Part::Step { at } => bench::Request::Step(
+            steps
+                .get(usize::from(at))
+                .copied()
+                .unwrap_or(Step::Move { place: 255 }),
+        ),
+        Part::Run { from, count, room } => {
+            let steps = &steps[steps.len().min(usize::from(from))..];
+            bench::Request::Run {
+                steps: &steps[..steps.len().min(usize::from(count))],
+                room: usize::from(room),
+            }
+        }
+        Part::Settle { room } => bench::Request::Settle {
+            room: usize::from(room),
+        },
+        Part::Image { address } => bench::Request::Image { address },
+        Part::NextOpen { place } => bench::Request::NextOpen { place },
+    }
+}
+
 /// A bench that the requests of a list are made on, and the text of what they come to.
 #[derive(Drop)]
 struct Desk<'a, P> {
@@ -82,7 +106,7 @@ impl<P: Protocol> Desk<'_, P> {
     fn study(&mut self, steps: &[Step], parts: &[Part], answers: u8, room: u8) -> io::Result<()> {
         let requests = parts
             .iter()
-            .map(|part| part.over(steps))
+            .map(|part| asked(*part, steps))
             .collect::<Vec<_>>(self.heap)?;
         let mut answers = vec![in self.heap; Answer::Found(Some(255)); usize::from(answers)]?;
         let mut outcomes = vec![in self.heap; UNTOUCHED; usize::from(room)]?;
@@ -151,6 +175,7 @@ fn make(heap: Global, list: &[u8], text: &mut Text) -> Result<(), Stop> {
     let protocol = (Base::try_from(base)?, Buffers::try_from(buffers)?);
     text.heading(base, buffers)?;
     let requests = Requests::new(heap, rest);
+    // One arm for each, since each protocol is a type of its own.
     match protocol {
         (Base::Neat, Buffers::None) => make_all(heap, Neat::new(), requests, text),
         (Base::Mesi, Buffers::None) => make_all(heap, Mesi::new(), requests, text),

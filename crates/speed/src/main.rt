@@ -17,7 +17,7 @@ use study_file::{Code, read};
 use study_run::run_file;
 
 /// How a study is made: its steps as one run; each of its core calls and then a settling; or the whole file, from its bytes to its report.
-#[derive(Clone, Copy)]
+#[derive(Clone, Copy, PartialEq, Eq, Debug)]
 enum Way {
     Run,
     Settle,
@@ -25,7 +25,7 @@ enum Way {
 }
 
 /// A word that asks for no way.
-#[derive(Clone, Copy)]
+#[derive(Clone, Copy, PartialEq, Eq, Debug)]
 struct NoWay;
 
 /// The shortest time that is measured.
@@ -149,6 +149,7 @@ fn report(rt: &HostRuntime) -> anyhow::Result<()> {
     let plan = read(rt.alloc(), file).map_err(|_| anyhow!("the file has a fault"))?;
     let steps = plan.steps.as_slice();
     let way = way_asked(rt)?;
+    // One arm for each, since each protocol is a type of its own.
     match plan.code {
         Code::Neat => make(rt, Neat::new(), file, steps, way),
         Code::Mesi => make(rt, Mesi::new(), file, steps, way),
