@@ -14,7 +14,7 @@ use Rattle.races.specs.Log.{Log, empty_log, feed}
 use Rattle.races.specs.Table.{reply_of, mark_of, start}
 use Rattle.races.specs.Study.{Watched, Takes, ends_race}
 use Rattle.races.proofs.StudyLaw.{coherent}
-use Rattle.mesi.specs.Bus.{State, start as bus_start, mesi_machine, load_answers}
+use Rattle.mesi_rules.specs.Bus.{State, start as bus_start, mesi_machine, load_answers}
 use Rattle.bench.specs.Chains.{Chain, nothing, then, AnyStep}
 use Rattle.bench.specs.Computed.{state_after, table_after}
 use Rattle.bench.proofs.Computing.{comes_to}

@@ -6,7 +6,7 @@ use Rattle.protocol.specs.Cells.{line_of, offset_of}
 use Rattle.protocol.specs.Rules.{guarded}
 use Rattle.races.specs.Log.{empty_log}
 use Rattle.report.specs.Lines.{line_end}
-use Rattle.mesi.specs.Bus as bus
+use Rattle.mesi_rules.specs.Bus as bus
 use Rattle.neat_rules.specs.State as neat_state
 use Rattle.neat_rules.specs.Rules as neat_rules
 use Rattle.neat_rules.specs.Reading as neat_reading

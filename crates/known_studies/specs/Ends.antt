@@ -2,10 +2,10 @@
 use Rattle.std.specs.Prelude.{ℕ, Bool, true, ◌&&◌, List, [], ◌∷◌, ◌++◌}
 use Rattle.protocol.specs.declared.steps.Step.{Step}
 use Rattle.bench.specs.Computed.{state_after}
-use Rattle.mesi.specs.declared.copies.PrivateLine.{PrivateLine}
-use Rattle.mesi.specs.declared.copies.PrivateLine.TheVariants.{Invalid, Shared, Exclusive, Modified}
-use Rattle.mesi.specs.Rows.{LineRow}
-use Rattle.mesi.specs.Bus as bus
+use Rattle.mesi_rules.specs.declared.copies.PrivateLine.{PrivateLine}
+use Rattle.mesi_rules.specs.declared.copies.PrivateLine.TheVariants.{Invalid, Shared, Exclusive, Modified}
+use Rattle.mesi_rules.specs.Rows.{LineRow}
+use Rattle.mesi_rules.specs.Bus as bus
 use Rattle.neat_rules.specs.State as neat_state
 use Rattle.neat_rules.specs.Reading as neat_reading
 use Rattle.protocol.specs.Moment.{Moment}

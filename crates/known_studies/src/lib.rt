@@ -4,7 +4,7 @@
 ghost use Rattle.std.specs.Prelude.{◌≡◌, true, false};
 ghost use Rattle.known_studies.specs.Shown.{all_known};
 ghost use Rattle.bench.specs.Computed.{state_after, table_after};
-ghost use Rattle.mesi.specs.Bus.{state_of, start};
+ghost use Rattle.mesi_rules.specs.Bus.{start};
 ghost use Rattle.races.specs.Table.{start as none_ended};
 ghost use Rattle.known_studies.specs.Cases.{cases, mesi_step, handover};
 ghost use Rattle.known_studies.specs.Ends.{all_end, neat_due, mesi_copies_after, reaches_by_rules};
@@ -33,7 +33,7 @@ pub fn studies_hold() -> bool
 /// study, and not by the rules of MESI.
 pub fn hand_over(bench: &mut Bench<Mesi>) -> Outcome
     ensures answer { result ≡ HasEnded (Loaded 1 10 65) false }
-    ensures protocol { state_of bench.new.protocol ≡ state_after mesi_step start handover }
+    ensures protocol { bench.new.protocol ≡ state_after mesi_step start handover }
     ensures races { bench.new.races ≡ table_after mesi_step start none_ended handover }
 {
     bench.set_up();

@@ -2,7 +2,7 @@
 
 ghost use Rattle.std.specs.Prelude.{◌≡◌, ◌+◌, ◌*◌, min};
 ghost use Rattle.races.specs.Log.{Log};
-ghost use Rattle.races.specs.Study.{Watched};
+ghost use Rattle.bench.specs.Benches.{InStudy, moment_of};
 ghost use Rattle.report.specs.Page.{buffer_of, Puts};
 ghost use Rattle.printing.specs.Page.{image_digits, StepsPrinted, Prints};
 
@@ -23,7 +23,7 @@ fn print_steps<P: Protocol>(bench: &mut Bench<P>, steps: &[Step], page: &mut Pag
 /// Prints the digits of the image, by rising address.
 fn print_image<P: Protocol>(bench: &Bench<P>, page: &mut Page<'_>)
     ensures same_buffer { buffer_of page.new ≡ buffer_of page.old }
-    ensures image { (log : Log) → Watched P.machine (P.state bench.now.protocol) bench.now.races log → Puts page.old page.new (image_digits (P.machine.moment (P.state bench.now.protocol)).view.home 64) }
+    ensures image { (log : Log) → InStudy P.machine P.state bench.now log → Puts page.old page.new (image_digits (moment_of P.machine P.state bench.now).view.home 64) }
 {
     for address in 0..64u8 {
         // no address below 64 is refused in a study, so the 0 is never printed

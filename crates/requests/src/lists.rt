@@ -249,7 +249,7 @@ impl<'a> Rest<'a> {
 
 impl FromRest for Step {
     fn from_rest(rest: &mut Rest) -> Result<Step, Stop> {
-        let kind = Kind::named(u16::from(rest.byte()?)).ok_or(Stop::Broken)?;
+        let kind = Kind::try_from(u16::from(rest.byte()?)).map_err(|_| Stop::Broken)?;
         Ok(match kind {
             Kind::Load => Step::Load {
                 core: rest.byte()?,

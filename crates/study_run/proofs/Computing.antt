@@ -8,7 +8,7 @@ use Rattle.races.specs.Table.{start}
 use Rattle.bench.specs.declared.faults.Fault.{Fault}
 use Rattle.bench.specs.Computed.{Follows, state_after, table_after, outcomes_of}
 use Rattle.printing.specs.Page.{report_of, report_length, short_output, Printed, Prints}
-use Rattle.mesi.specs.Bus as bus
+use Rattle.mesi_rules.specs.Bus as bus
 use Rattle.neat_rules.specs.State as neat_state
 use Rattle.neat_rules.specs.Machine.{neat}
 use Rattle.buffer_rules.specs.Buffered.{Pile, buffered, buffer_step, ByFunction}

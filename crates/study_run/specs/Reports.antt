@@ -9,7 +9,7 @@ use Rattle.bench.specs.declared.faults.Fault.{Fault}
 use Rattle.bench.specs.Computed.{state_after, table_after, outcomes_of}
 use Rattle.report.specs.Lines.{line_end}
 use Rattle.printing.specs.Page.{report_of, report_length, short_output, Printed}
-use Rattle.mesi.specs.Bus as bus
+use Rattle.mesi_rules.specs.Bus as bus
 use Rattle.neat_rules.specs.State as neat_state
 use Rattle.neat_rules.specs.Rules as neat_rules
 use Rattle.neat_rules.specs.Reading as neat_reading

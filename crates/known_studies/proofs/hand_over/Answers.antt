@@ -1,5 +1,5 @@
 -- The answer is the guarantee's; what is left is computed by the rules.
-use Rattle.mesi.proofs.Law.{keeps}
+use Rattle.mesi_rules.proofs.Law.{keeps}
 use Rattle.known_studies.proofs.HandOver.{handed_over, handover_leaves}
 use Rattle.known_studies.proofs.hand_over.Goals as goal
 
