@@ -1,5 +1,5 @@
 -- Private lines of the code, read as those of the rules.
-use Rattle.std.specs.Prelude.{ℕ, Bool, true, false, cond, Some, None, Option}
+use Rattle.std.specs.Prelude.{ℕ, cond, Some, None, Option}
 use Rattle.neat_rules.specs.State.{Block, dirty, clean, stored, Line, I, V, Place, Slot}
 use Rattle.neat.specs.declared.block.Block.{Block as CodeBlock}
 use Rattle.neat.specs.Blocks.{as_block}
@@ -8,11 +8,6 @@ use Rattle.neat.specs.Blocks.{as_block}
 abbrev pub as_line : Option CodeBlock → Line
 as_line None = I
 as_line (Some b) = V (as_block b)
-
--- Whether a line is V.
-abbrev pub is_valid : Line → Bool
-is_valid I = false
-is_valid (V b) = true
 
 -- A V line with a byte stored at offset o.
 abbrev pub written_in : Line → ℕ → ℕ → Line

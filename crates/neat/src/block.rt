@@ -39,8 +39,9 @@ impl Block {
     pub fn write(&mut self, offset: Offset, byte: u8)
         ensures { as_block self.new ≡ stored (as_block self.old) offset.number byte }
     {
-        self.bytes[offset.index()] = byte;
-        self.written |= 1 << offset.index();
+        let at = offset.index();
+        self.bytes[at] = byte;
+        self.written |= 1 << at;
     }
 
     /// Takes what is to be sent, and clears the write bits.

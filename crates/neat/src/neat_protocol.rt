@@ -70,6 +70,9 @@ impl Protocol for Neat {
         self.caches = Caches::new();
     }
 
+    // Each call turns a refusal into its reply. One function for all, which takes what is done as a closure, would end in a state of which
+    // it cannot show that a step has led there: the step is named by numbers that it is not given.
+
     fn load(&mut self, core: u8, address: u8) -> Reply {
         match self.caller(core, Address::try_from(address)) {
             Ok((core, address)) => self.caches.load(core, address),
