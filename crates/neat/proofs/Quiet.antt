@@ -1,5 +1,5 @@
 -- The search for an open place skips the nine places of a core of which none carries a message.
-use Rattle.std.proofs.Common.{◌≡◌, ℕ, zero, suc, ◌+◌, ◌/◌, ◌%◌, ◌<◌, ◌≤◌, Bool, true, false, cond, ◌||◌, eqb, ltb, sym, ap, ◌∙◌, subst, ap₂, ⊎_elim, add-zero, add-one, arith}
+use Rattle.std.proofs.Common.{◌≡◌, ℕ, zero, suc, ◌+◌, ◌/◌, ◌%◌, ◌<◌, ◌≤◌, Bool, true, false, cond, not, ◌||◌, eqb, ltb, sym, ap, ◌∙◌, subst, ap₂, ⊎_elim, add-zero, add-one, arith}
 use Rattle.std.proofs.lemmas.Bool.{cases_eq, eq-eqb, ne_eqb, cond-true, cond-false, cases_Bool, and_parts, not-true}
 use Rattle.neat_rules.specs.State.{State, some_below}
 use Rattle.neat_rules.specs.Reading.{carries, close_carries, open_in, next_open}
@@ -11,8 +11,9 @@ use Rattle.neat.proofs.Opening.{search_more}
 shut_there : (s : State) (p : ℕ) → quiet (s.cores (p / 9)) ≡ true → open_in s p ≡ false
 shut_there s p q =
     let x = s.cores (p / 9) in
-    let lines : some_below 8 (λ l. carries (x.slot l).place) ≡ false = not-true (some_below 8 (λ l. carries (x.slot l).place)) (and_parts _ _ q).0 in
-    let close : close_carries x.closing ≡ false = not-true (close_carries x.closing) (and_parts _ _ q).1 in
+    let parts = and_parts (not (some_below 8 (λ l. carries (x.slot l).place))) (not (close_carries x.closing)) q in
+    let lines = not-true (some_below 8 (λ l. carries (x.slot l).place)) parts.0 in
+    let close = not-true (close_carries x.closing) parts.1 in
     let inner : cond (eqb (p % 9) 8) (close_carries x.closing) (carries (x.slot (p % 9)).place) ≡ false =
     ⊎_elim
     (λ (e : p % 9 ≡ 8). cond-true (eqb (p % 9) 8) _ _ (eq-eqb (p % 9) 8 e) ∙ close)
