@@ -309,7 +309,7 @@ impl CorePart {
     pub fn is_quiet(&self) -> bool
         ensures { result ≡ quiet (as_core self.now) }
     {
-        // Without a branch for each place: with `any`, which leaves at the first message, settling is 5 parts in 100 slower.
+        // Without a branch for each place: with `any`, which leaves at the first message, settling was 5 parts in 100 slower.
         let mut open = false;
         for slot in &self.slots {
             open |= slot.carries();

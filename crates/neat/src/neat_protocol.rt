@@ -70,8 +70,8 @@ impl Protocol for Neat {
         self.caches = Caches::new();
     }
 
-    // Each call turns a refusal into its reply. One function for all, which takes what is done as a closure, would end in a state of which
-    // it cannot show that a step has led there: the step is named by numbers that it is not given.
+    // Each call turns a refusal into its reply. One function for all, with what is done as a closure, can't show that a step leads to the
+    // state in which it ends: the numbers in that step are not among what it is given.
 
     fn load(&mut self, core: u8, address: u8) -> Reply {
         match self.caller(core, Address::try_from(address)) {
@@ -121,7 +121,7 @@ impl Protocol for Neat {
     }
 
     fn next_open(&self, place: u8) -> Option<u8> {
-        // A `find` over the numbers has no step of nine: with it a study that settles makes 5.5 million steps a second, and so 13.6.
+        // A `find` over the numbers has no step of nine: a study that settles made 5.5 million steps a second with it, and makes 13.6 so.
         let mut number = place;
         while number < 72 {
             if self.is_quiet_from(number) {

@@ -34,7 +34,7 @@ impl Slot {
     pub fn ask(&mut self)
         ensures { as_slot self.new ≡ record { line = (as_slot self.old).line; place = asked (as_slot self.old).place } }
     {
-        if let None = self.place {
+        if self.place.is_none() {
             self.place = Some(Message::GetLine);
         }
     }
