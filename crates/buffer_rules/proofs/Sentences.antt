@@ -119,12 +119,9 @@ module _ {S : Type 0} (steps : S → Step → Reply → S → Type 0) where
   goes_straight e es (Evict c l) s x n m i = is_done (Finished e, record { entries = es; pending = None }) x i
   goes_straight e es (Move p) s x n m i = is_done (Finished e, record { entries = es; pending = None }) x i
 
-  -- A call has ended below: its core waits for none, or for one that goes on.
+  -- A call has ended below, and its core waits for none.
   pub none_waits : (e : Ended) (b : Buffer) (w : Option Step) (s : S) (x : Reply × Buffer) → w ≡ None → x ≡ (Finished e, b) → Runs steps (ended_below e b w) s x s
   none_waits e b w s x i j = subst (λ (z : Option Step). Runs steps (ended_below e b z) s x s) (sym i) (is_done (Finished e, b) x j)
-
-  pub one_waits : (e : Ended) (b : Buffer) (w : Option Step) (k : Step) (s t : S) (x : Reply × Buffer) → w ≡ Some k → Runs steps (goes_on e b.entries k) s x t → Runs steps (ended_below e b w) s x t
-  one_waits e b w k s t x i h = subst (λ (z : Option Step). Runs steps (ended_below e b z) s x t) (sym i) h
 
   -- A call of core c among the buffers of all cores: refused, or that core's work.
   pub call_refused : (bs : ℕ → Buffer) (o : Option Refusal) (c : ℕ) (work : List Entry → Work) (s : S) (e : Refusal) → o ≡ Some e → Runs steps (unless o bs (of_core bs c (work (bs c).entries))) s (Refused e, bs) s

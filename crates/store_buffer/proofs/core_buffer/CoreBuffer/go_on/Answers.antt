@@ -1,11 +1,8 @@
 -- No call waits, or one that goes on.
 use Rattle.std.proofs.Common.{refl, sym, ◌∙◌}
-use Rattle.buffer_rules.proofs.Sentences.{none_waits, one_waits}
+use Rattle.buffer_rules.proofs.Sentences.{none_waits}
 use Rattle.store_buffer.proofs.Answered.{pending_shown}
 use Rattle.store_buffer.proofs.core_buffer.CoreBuffer.go_on.Goals as goal
 
 pub returns-in-None : goal.returns-in-None
 returns-in-None g c = none_waits g.P.Protocol.machine.steps _ _ _ _ _ (sym (pending_shown c.self.view_is) ∙ c.in-None.is) refl
-
-pub returns-in-Some : goal.returns-in-Some
-returns-in-Some g c = one_waits g.P.Protocol.machine.steps _ _ _ _ _ _ _ (sym (pending_shown c.self.view_is) ∙ c.in-Some.is) c.resume.ensures
