@@ -9,7 +9,7 @@ use Rattle.races.specs.declared.table.RaceTable.{RaceTable}
 use Rattle.races.specs.Study.{Takes}
 use Rattle.bench.proofs.Holding.{holds, holds_along, chain_carries}
 use Rattle.bench.proofs.Computing.{comes_to, settle_computed}
-use Rattle.bench.specs.Chains.{Chain, nothing, then, AnyStep, FirstPlace, Ran, Settled}
+use Rattle.bench.specs.Chains.{Chain, nothing, then, AnyStep, FirstPlace, Noted, Ran, Settled}
 
 module _ (M : Machine) (Chosen : M.State → Step → Type 0) where
   -- One step more.
@@ -61,8 +61,9 @@ run_done M means s t w v ks out new i h e l =
 abbrev pub Settling : (M : Machine) → M.State → RaceTable → List Outcome → ℕ → M.State → RaceTable → List Outcome → Type 0
 Settling M s w out i t v new = (ks : List Step) × SoFar M (FirstPlace M) s w ks out i t v new
 
-pub settle_more : (M : Machine) (s t u : M.State) (w v x : RaceTable) (out new : List Outcome) (i p : ℕ) (r : Outcome) → i < length new → Settling M s w out i t v new → M.opens t 0 (Some p) → Takes M t v (Move p) r u x → Settling M s w out (i + 1) u x (set new i r)
-settle_more M s t u w v x out new i p r l h o g = (h.0 ++ Move p ∷ [], far_more M (FirstPlace M) i l h.1 (p, refl, o) g)
+pub settle_more : (M : Machine) (s t u : M.State) (w v x : RaceTable) (out new later : List Outcome) (i p : ℕ) → i < length new → Settling M s w out i t v new → M.opens t 0 (Some p) → Noted M t v (Move p) new i u x later → Settling M s w out (i + 1) u x later
+settle_more M s t u w v x out new later i p l h o n =
+    subst (λ (z : List Outcome). Settling M s w out (i + 1) u x z) (sym n.written) (h.0 ++ Move p ∷ [], far_more M (FirstPlace M) i l h.1 (p, refl, o) n.takes)
 
 -- A settling has come to its end: no place is open, or the outcomes are full.
 pub settle_done : (M : Machine) (means : Meaning M) (s t : M.State) (w v : RaceTable) (out new : List Outcome) (i n : ℕ) (o : Option ℕ) (b : Bool) → Settling M s w out i t v new → n ≡ i → b ≡ is_some o → i ≤ length new → M.opens t 0 o → (b ≡ true → n ≡ length out) → Settled M s w out n b t v new
@@ -88,6 +89,7 @@ settle_done M means s t w v out new i n o b h e q l a f =
     }
 
 -- A turn of a run.
-pub run_more : (M : Machine) (s t u : M.State) (w v x : RaceTable) (ks : List Step) (out new : List Outcome) (i : ℕ) (d : Step) (r : Outcome) → i < length ks → i < length new → SoFar M (AnyStep M) s w (take i ks) out i t v new → Takes M t v (get_or ks i d) r u x → SoFar M (AnyStep M) s w (take (i + 1) ks) out (i + 1) u x (set new i r)
-run_more M s t u w v x ks out new i d r k l h g =
-    subst (λ (z : List Step). SoFar M (AnyStep M) s w z out (i + 1) u x (set new i r)) (sym (take_more ks i d k)) (far_more M (AnyStep M) i l h tt g)
+pub run_more : (M : Machine) (s t u : M.State) (w v x : RaceTable) (ks : List Step) (out new later : List Outcome) (i : ℕ) (d : Step) → i < length ks → i < length new → SoFar M (AnyStep M) s w (take i ks) out i t v new → Noted M t v (get_or ks i d) new i u x later → SoFar M (AnyStep M) s w (take (i + 1) ks) out (i + 1) u x later
+run_more M s t u w v x ks out new later i d k l h n =
+    subst (λ (z : List Outcome). SoFar M (AnyStep M) s w (take (i + 1) ks) out (i + 1) u x z) (sym n.written)
+    (subst (λ (z : List Step). SoFar M (AnyStep M) s w z out (i + 1) u x (set new i n.outcome)) (sym (take_more ks i d k)) (far_more M (AnyStep M) i l h tt n.takes))

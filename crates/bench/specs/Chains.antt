@@ -1,5 +1,5 @@
 -- Steps taken one after the other: runs, and settlings.
-use Rattle.std.specs.Prelude.{◌≡◌, ℕ, ◌+◌, ◌*◌, ◌<◌, ◌≤◌, Bool, true, false, List, [], ◌∷◌, ◌++◌, length, drop, is_some, Some, None, Ok, Err, Option, Result}
+use Rattle.std.specs.Prelude.{◌≡◌, ℕ, ◌+◌, ◌*◌, ◌<◌, ◌≤◌, Bool, true, false, List, [], ◌∷◌, ◌++◌, length, drop, slice_set, is_some, Some, None, Ok, Err, Option, Result}
 use Rattle.protocol.specs.declared.steps.Step.{Step}
 use Rattle.protocol.specs.declared.steps.Step.TheVariants.{Move}
 use Rattle.protocol.specs.declared.steps.Refusal.{Refusal}
@@ -19,6 +19,12 @@ use Rattle.bench.specs.Computed.{Follows, Finds, state_after, table_after, outco
 pub data Chain (M : Machine) (Chosen : M.State → Step → Type 0) : M.State → RaceTable → List Step → List Outcome → M.State → RaceTable → Type 0 where
   nothing : {s : M.State} {w : RaceTable} → Chain M Chosen s w [] [] s w
   then : {s t u : M.State} {w v x : RaceTable} {k : Step} {r : Outcome} {ks : List Step} {rs : List Outcome} → Chosen s k → Takes M s w k r t v → Chain M Chosen t v ks rs u x → Chain M Chosen s w (k ∷ ks) (r ∷ rs) u x
+
+-- The step k was taken and its outcome written at the index i of `out`, which became `new`.
+pub record Noted (M : Machine) (s : M.State) (w : RaceTable) (k : Step) (out : List Outcome) (i : ℕ) (t : M.State) (v : RaceTable) (new : List Outcome) : Type 0 where
+  pub outcome : Outcome
+  pub takes : Takes M s w k outcome t v
+  pub written : new ≡ slice_set out i outcome
 
 -- A run takes any step.
 abbrev pub AnyStep : (M : Machine) → M.State → Step → Type 0

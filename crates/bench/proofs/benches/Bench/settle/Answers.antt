@@ -16,7 +16,7 @@ returns-in_default g c =
 
 pub loop-moves-preserved : goal.loop-moves-preserved
 loop-moves-preserved g c =
-    settle_more g.P.Protocol.machine _ _ _ _ _ _ _ c.loop-moves.outcomes c.loop-moves.moves c.in-Some.place c.step_into.new.outcome (omega arith) c.loop-moves.invariant c.in-Some.ensures.answers c.step_into.ensures
+    settle_more g.P.Protocol.machine _ _ _ _ _ _ _ c.loop-moves.outcomes _ c.loop-moves.moves c.in-Some.place (omega arith) c.loop-moves.invariant c.in-Some.ensures.answers (record { outcome = c.step_into.new.outcome; takes = c.step_into.ensures; written = refl })
 
 pub returns : goal.returns
 returns g c =
