@@ -32,6 +32,7 @@ fn file_length(steps: &[Step]) -> usize
 }
 
 /// A number as two bytes, the low one first.
+// A function of its own: of a `u16` argument a proof knows that the high byte is the number divided by 256.
 fn two_bytes(n: u16) -> [u8; 2]
     ensures { result ≡ bytes_of n }
 {
