@@ -7,29 +7,29 @@ ghost use Rattle.bench.specs.Faults.{cause_number, layer_number, fault_of};
 #[derive(Clone, Copy, PartialEq, Eq, Debug)]
 pub enum Cause {
     /// The file ends inside a record.
-    CutShort,
+    CutShort = 5,
     /// No record has that kind.
-    UnknownKind,
+    UnknownKind = 6,
     /// The length is below 2, or not the kind's.
-    WrongLength,
+    WrongLength = 7,
     /// The first record is missing or does not name the protocol, or a later one does.
-    ProtocolNotFirst,
+    ProtocolNotFirst = 8,
     /// No protocol has that code.
-    UnknownCode,
+    UnknownCode = 9,
     /// There are more than 32,768 bytes, or more than 4,096 steps.
-    TooLong,
+    TooLong = 10,
     /// The report, or the file that is written, does not fit the output.
-    OutputTooShort,
+    OutputTooShort = 11,
     /// There are fewer outcomes than steps, or fewer answers than requests.
-    TooFewOutcomes,
+    TooFewOutcomes = 12,
 }
 
 /// Who found the fault: the reader of records, the plan made of them, or the call of an embedding program.
 #[derive(Clone, Copy, PartialEq, Eq, Debug)]
 pub enum Layer {
-    Reader,
-    Plan,
-    Caller,
+    Reader = 1,
+    Plan = 2,
+    Caller = 3,
 }
 
 /// A fault: its cause, its place, and the layer that found it. The place is that of the record in its file; 32768 where the file is too
@@ -46,16 +46,7 @@ impl From<Cause> for u8 {
     ghost from_gives = { λ cause n. n ≡ cause_number cause };
 
     fn from(cause: Cause) -> u8 {
-        match cause {
-            Cause::CutShort => 5,
-            Cause::UnknownKind => 6,
-            Cause::WrongLength => 7,
-            Cause::ProtocolNotFirst => 8,
-            Cause::UnknownCode => 9,
-            Cause::TooLong => 10,
-            Cause::OutputTooShort => 11,
-            Cause::TooFewOutcomes => 12,
-        }
+        cause as u8
     }
 }
 
@@ -64,11 +55,7 @@ impl From<Layer> for u8 {
     ghost from_gives = { λ layer n. n ≡ layer_number layer };
 
     fn from(layer: Layer) -> u8 {
-        match layer {
-            Layer::Reader => 1,
-            Layer::Plan => 2,
-            Layer::Caller => 3,
-        }
+        layer as u8
     }
 }
 

@@ -26,6 +26,7 @@ impl<P: Protocol> Bench<P> {
 
     /// Moves the first open place until none is open or the outcomes are full. Answers how many moves were made, and whether a place
     /// is still open.
+    // A pair, and no `Option`: a settling may fill its room and still leave a place open, or do either alone.
     pub fn settle(&mut self, outcomes: &mut [Outcome]) -> (usize, bool)
         ensures { Settles P.machine P.state self.old outcomes.old result self.new outcomes.new }
     {

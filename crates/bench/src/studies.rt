@@ -67,6 +67,7 @@ impl<P: Protocol> Bench<P> {
             return Err(Layer::Caller.fault(Cause::TooFewOutcomes, 0));
         }
         self.set_up();
+        // Where the outcomes written so far end: only each answer says how far that moves on.
         let mut at = 0;
         // By the index, and no `zip` with `iter_mut`: of what its loop writes, the proof learns nothing.
         for (index, request) in requests.iter().enumerate() {

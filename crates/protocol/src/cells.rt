@@ -5,11 +5,13 @@ ghost use Rattle.protocol.specs.Cells.{core_named, address_named, line_named, li
 
 use crate::steps::Refusal;
 
-/// How many cores, addresses and lines there are.
+/// How many cores there are.
 const CORES: u8 = 8;
 
+/// How many addresses.
 const ADDRESSES: u8 = 64;
 
+/// How many lines.
 const LINES: u8 = 8;
 
 // Core, Address, Line and Offset are four structs and not one generic struct over a kind: that needs a trait, four types that name the

@@ -19,13 +19,13 @@ pub enum Step {
 #[derive(Clone, Copy, PartialEq, Eq, Debug)]
 pub enum Refusal {
     /// The core is above 7.
-    NoSuchCore,
+    NoSuchCore = 1,
     /// The address is above 63, or the line above 7.
-    NoSuchAddress,
+    NoSuchAddress = 2,
     /// The core waits for an earlier call.
-    CoreWaits,
+    CoreWaits = 3,
     /// The place carries no message that can be moved.
-    PlaceNotOpen,
+    PlaceNotOpen = 4,
 }
 
 /// A core call that has ended: its fields, and the byte that a load answered.
@@ -39,6 +39,7 @@ pub enum Ended {
 }
 
 /// What a protocol answers to a step.
+// A refusal is a case here, and no `Err`: it is one of five answers, in the rules' tables as in a list of outcomes.
 #[derive(Clone, Copy, PartialEq, Eq, Debug)]
 pub enum Reply {
     /// Turned down.
@@ -58,12 +59,7 @@ impl From<Refusal> for u8 {
     ghost from_gives = { λ refusal n. n ≡ refusal_number refusal };
 
     fn from(refusal: Refusal) -> u8 {
-        match refusal {
-            Refusal::NoSuchCore => 1,
-            Refusal::NoSuchAddress => 2,
-            Refusal::CoreWaits => 3,
-            Refusal::PlaceNotOpen => 4,
-        }
+        refusal as u8
     }
 }
 

@@ -22,7 +22,7 @@ pub struct RaceTable {
     /// How many core calls have ended, at most 65,535.
     pub ended: u16,
     /// The number of the first race, or 0.
-    // A number, and no `Option` of one: a report prints it so, 0 for none, and the log's definition says it so.
+    // A number, and no `Option` of one: a bench promises it so, a report prints it so, 0 for none, and the log's definition says it so.
     pub first_race: u16,
 }
 
@@ -58,11 +58,7 @@ impl Newest {
     fn has_acquired(&self, core: Core) -> bool
         ensures { result ≡ has_acquired core.number self.now.acquired }
     {
-        // No `is_some_and`: the proof learns nothing from a closure that looks into an array.
-        match self.acquired {
-            Some(acquired) => acquired[core.index()],
-            None => false,
-        }
+        matches!(self.acquired, Some(acquired) if acquired[core.index()])
     }
 
     /// Whether a load or store of the core races with the store.

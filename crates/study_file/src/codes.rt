@@ -11,24 +11,24 @@ use protocol::Step;
 /// The protocol that a study runs under.
 #[derive(Clone, Copy, PartialEq, Eq, Debug)]
 pub enum Code {
-    Neat,
-    Mesi,
+    Neat = 1,
+    Mesi = 2,
     /// A store buffer over Neat.
-    BufferedNeat,
+    BufferedNeat = 3,
     /// A store buffer over MESI.
-    BufferedMesi,
+    BufferedMesi = 4,
 }
 
 /// What a record holds.
 #[derive(Clone, Copy, PartialEq, Eq, Debug)]
 pub enum Kind {
-    Protocol,
-    Load,
-    Store,
-    Acquire,
-    Release,
-    Evict,
-    Move,
+    Protocol = 1,
+    Load = 2,
+    Store = 3,
+    Acquire = 4,
+    Release = 5,
+    Evict = 6,
+    Move = 7,
 }
 
 /// The number by which a file names a protocol.
@@ -36,12 +36,7 @@ impl From<Code> for u8 {
     ghost from_gives = { λ code n. n ≡ code_number code };
 
     fn from(code: Code) -> u8 {
-        match code {
-            Code::Neat => 1,
-            Code::Mesi => 2,
-            Code::BufferedNeat => 3,
-            Code::BufferedMesi => 4,
-        }
+        code as u8
     }
 }
 
@@ -67,15 +62,7 @@ impl From<Kind> for u16 {
     ghost from_gives = { λ kind n. n ≡ kind_number kind };
 
     fn from(kind: Kind) -> u16 {
-        match kind {
-            Kind::Protocol => 1,
-            Kind::Load => 2,
-            Kind::Store => 3,
-            Kind::Acquire => 4,
-            Kind::Release => 5,
-            Kind::Evict => 6,
-            Kind::Move => 7,
-        }
+        kind as u16
     }
 }
 
