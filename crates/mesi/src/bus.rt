@@ -30,6 +30,7 @@ fn reply(call: Result<Ended, Refusal>) -> Reply
     call.map_or_else(Reply::Refused, Reply::Ended)
 }
 
+// A core and an address, or a line, stay two parameters, as in the rules: a struct of both would be taken apart in each function.
 impl Mesi {
     /// Every core has I of every line, and the LLC's bytes are 00.
     pub fn new() -> Mesi

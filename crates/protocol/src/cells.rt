@@ -5,6 +5,9 @@ ghost use Rattle.protocol.specs.Cells.{core_named, address_named, line_named, li
 
 use crate::steps::Refusal;
 
+// Tables over them are arrays in every protocol, and what a caller is answered goes into lists of its own: a step, a run or a report
+// allocates nothing.
+
 /// How many cores there are.
 const CORES: u8 = 8;
 

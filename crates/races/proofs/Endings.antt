@@ -60,6 +60,7 @@ right_acquire : (c a : ℕ) (v : View) (o : Option Written) (l : List Ended) →
 right_acquire c a v None l k f h = h
 right_acquire c a v (Some w) l k f h = acquire_adds c a v w l k f h
 
+-- Three lemmas of one form: one for all would have to make the record `Right` anew, and be longer.
 -- A call that is no store, release or acquire changes nothing.
 right_load : (c e b a : ℕ) (v : View) (o : Option Written) (l : List Ended) → Right v a o (has_released l) (has_handed l) → Right v a o (has_released (Loaded c e b ∷ l)) (has_handed (Loaded c e b ∷ l))
 right_load c e b a v None l h = h
