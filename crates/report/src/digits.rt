@@ -24,7 +24,7 @@ pub fn decimal_digits<const N: usize>(number: u16) -> [u8; N]
 {
     let mut digits = [b'0'; N];
     let mut left = number;
-    // by index, since a proof knows no element behind an `iter_mut`
+    // by index, since a proof knows no element behind `iter_mut().rev()`
     for place in (0..N).rev() {
         digits[place] = b'0' + (left % 10) as u8;
         left /= 10;

@@ -2,6 +2,9 @@
 
 ghost use Rattle.std.specs.Prelude.{◌≤◌, length};
 
+// A type of ours: std's `Cursor<&mut [u8]>` answers a `Result` that never fails and says nothing of the bytes, and an `ArrayVec` owns its
+// bytes, where these are the caller's.
+
 /// A buffer that is filled piece by piece. What has no room is left out.
 #[derive(Drop)]
 pub struct Page<'a> {

@@ -1,5 +1,5 @@
 -- The plan that the records of a file make: the code of a protocol, then steps.
-use Rattle.std.specs.Prelude.{◌≡◌, ℕ, zero, suc, ◌+◌, cond, List, [], ◌∷◌, length, drop, Some, None, Ok, Err, vec_items, Option, Result, nat_lt, slice_index}
+use Rattle.std.specs.Prelude.{◌≡◌, ℕ, zero, suc, ◌+◌, cond, List, [], ◌∷◌, length, drop, Some, None, Ok, Err, vec_items, Option, Result, nat_lt, slice_index, ◌==◌}
 use Rattle.std.specs.Option.{ok_or}
 use Rattle.protocol.specs.declared.steps.Step.{Step}
 use Rattle.protocol.specs.declared.steps.Step.TheVariants.{Load, Store, Acquire, Release, Evict, Move}
@@ -15,7 +15,7 @@ use Rattle.study_file.specs.declared.plans.Item.TheVariants.{Code as Names, Step
 use Rattle.study_file.specs.declared.plans.Plan.{Plan}
 use Rattle.study_file.specs.declared.plans.Failure.{Failure}
 use Rattle.study_file.specs.declared.plans.Failure.TheVariants.{Fault as HasFault, OutOfMemory}
-use Rattle.study_file.specs.Codes.{code_named}
+use Rattle.study_file.specs.Codes.{code_named, fields_of}
 use Rattle.study_file.specs.Records.{Found, most_bytes, reader_fault, next_at}
 
 -- A plan has at most 4,096 steps.
@@ -35,6 +35,15 @@ item_of AnAcquire b = Asks (Acquire (slice_index b 0))
 item_of ARelease b = Asks (Release (slice_index b 0))
 item_of AnEvict b = Asks (Evict (slice_index b 0) (slice_index b 1))
 item_of AMove b = Asks (Move (slice_index b 0))
+
+-- The step that a record says, or none where it says a code.
+abbrev pub step_said : Item → Option Step
+step_said (Names n) = None
+step_said (Asks k) = Some k
+
+-- The step of a kind and its fields: none where the kind has not so many fields, or is the protocol's.
+abbrev pub step_of_fields : Kind → List ℕ → Option Step
+step_of_fields k b = cond (length b == fields_of k) (step_said (item_of k b)) None
 
 -- The first record names the protocol, by a known code.
 abbrev pub as_code : ℕ → Item → Result Code Fault

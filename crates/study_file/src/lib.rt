@@ -8,7 +8,7 @@ mod records;
 mod writer;
 
 pub use codes::{Code, Kind};
-pub use plans::{Failure, Plan, read};
+pub use plans::{Failure, Plan, read, step_of_fields};
 pub use record::Record;
-pub use records::Reader;
+pub use records::{MOST_BYTES, Reader};
 pub use writer::write;

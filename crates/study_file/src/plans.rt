@@ -2,7 +2,7 @@
 
 ghost use Rattle.std.specs.Prelude.{◌≡◌, ◌≤◌, length, drop, vec_items};
 ghost use Rattle.study_file.specs.Records.{most_bytes, held};
-ghost use Rattle.study_file.specs.Plans.{item_of, code_in, step_in, most_steps, steps_from, read_file, asked, Answers};
+ghost use Rattle.study_file.specs.Plans.{item_of, step_of_fields, code_in, step_in, most_steps, steps_from, read_file, asked, Answers};
 ghost use Rattle.study_file.specs.Laws.{Exact, WritesBack};
 ghost use Rattle.study_file.specs.declared.plans.Failure.TheVariants.{Fault as HasFault, OutOfMemory};
 
@@ -64,29 +64,39 @@ impl<T: Drop> From<AllocFailed<T>> for Failure {
     }
 }
 
-/// Takes a record apart into its fields.
-fn item_of(record: Record<'_>) -> Item
-    ensures { result ≡ item_of «record».entry.kind «record».entry.body.now }
+/// The step of a kind and its fields in order. There is none where a record of that kind has not so many, or names the protocol.
+pub fn step_of_fields(kind: Kind, fields: &[u8]) -> Option<Step>
+    ensures { result ≡ step_of_fields kind fields.now }
 {
-    match (record.kind, record.body) {
-        (Kind::Protocol, [code]) => Item::Code(*code),
-        (Kind::Load, [core, address]) => Item::Step(Step::Load {
+    match (kind, fields) {
+        (Kind::Load, [core, address]) => Some(Step::Load {
             core: *core,
             address: *address,
         }),
-        (Kind::Store, [core, address, byte]) => Item::Step(Step::Store {
+        (Kind::Store, [core, address, byte]) => Some(Step::Store {
             core: *core,
             address: *address,
             byte: *byte,
         }),
-        (Kind::Acquire, [core]) => Item::Step(Step::Acquire { core: *core }),
-        (Kind::Release, [core]) => Item::Step(Step::Release { core: *core }),
-        (Kind::Evict, [core, line]) => Item::Step(Step::Evict {
+        (Kind::Acquire, [core]) => Some(Step::Acquire { core: *core }),
+        (Kind::Release, [core]) => Some(Step::Release { core: *core }),
+        (Kind::Evict, [core, line]) => Some(Step::Evict {
             core: *core,
             line: *line,
         }),
-        (Kind::Move, [place]) => Item::Step(Step::Move { place: *place }),
-        _ => unreachable(),
+        (Kind::Move, [place]) => Some(Step::Move { place: *place }),
+        _ => None,
+    }
+}
+
+/// Takes a record apart into its fields.
+fn item_of(record: Record<'_>) -> Item
+    ensures { result ≡ item_of «record».entry.kind «record».entry.body.now }
+{
+    match (step_of_fields(record.kind, record.body), record.body) {
+        (Some(step), _) => Item::Step(step),
+        (None, [code]) => Item::Code(*code),
+        _ => unreachable!(),
     }
 }
 

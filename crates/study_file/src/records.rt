@@ -18,7 +18,7 @@ pub struct Reader<'a> {
 }
 
 /// A file has at most so many bytes.
-const MOST_BYTES: u16 = 32768;
+pub const MOST_BYTES: u16 = 32768;
 
 /// The record at a place, where `content` is what follows its length: its kind and its body.
 fn content_at(place: u16, content: &[u8]) -> Result<Record<'_>, Fault>
@@ -43,7 +43,7 @@ fn record_at(place: u16, rest: &[u8]) -> Result<Record<'_>, Fault>
     let [low, high, rest @ ..] = rest else {
         return Err(Layer::Reader.fault(Cause::CutShort, place));
     };
-    let length = u16::from_le_bytes([*low, *high]) as usize;
+    let length = usize::from(u16::from_le_bytes([*low, *high]));
     if rest.len() < length {
         return Err(Layer::Reader.fault(Cause::CutShort, place));
     }
@@ -66,13 +66,14 @@ impl<'a> Reader<'a> {
         ensures file { self.new.file.now ≡ self.old.file.now }
     {
         let place = self.place;
-        if self.file.len() > MOST_BYTES as usize {
+        if self.file.len() > usize::from(MOST_BYTES) {
             return Err(Layer::Reader.fault(Cause::TooLong, MOST_BYTES));
         }
-        if place as usize >= self.file.len() {
+        let start = usize::from(place);
+        if start >= self.file.len() {
             return Ok(None);
         }
-        let record = record_at(place, &self.file[place as usize..])?;
+        let record = record_at(place, &self.file[start..])?;
         self.place = place + 4 + record.body.len() as u16;
         Ok(Some(record))
     }
