@@ -93,8 +93,8 @@ fn refusal_shown(outcome: Outcome) -> [u8; 2]
 pub fn step_line(step: Step, outcome: Outcome) -> [u8; 14]
     ensures { result ≡ step_line step outcome }
 {
-    // An array, and no `Page` and no `Display`: every piece is one byte or two, so the line stands here as it is read, and what is answered is
-    // an array. A formatted write into one answers a `Result`, which would be taken apart again.
+    // An array, and no `Page` and no `Display`: every piece is one byte or two, so the line stands here as it is read, and what is answered
+    // is an array. A formatted write into one answers a `Result`, which would be taken apart again.
     let call = shown_call(step, outcome);
     let [high, low] = byte_shown(outcome);
     let [tens, units] = refusal_shown(outcome);

@@ -12,8 +12,8 @@ pub returns : goal.returns
 returns c =
     let plan = c.in_ok-plan.plan in
     let is = c.in_ok-plan.ensures.reads in
-    let printed = subst (λ (z : List Step). Prints (machine_of plan.code) (heading_of plan.code) z c.args.out.now (Ok c.in_ok-length.length) c.print_plan.new.out) c.as_slice.ensures.value c.in_ok-length.ensures in
+    let printed = subst (λ (z : List Step). Prints (machine_of plan.code) (heading_of plan.code) z c.args.out.now (Ok c.in_ok-print_plan.field-0) c.print_plan.new.out) c.as_slice.ensures.value c.in_ok-print_plan.ensures in
     record {
-      computed = plan_computed plan.code _ c.args.out.now c.print_plan.new.out (Ok c.in_ok-length.length) printed ∙ ap (λ (z : Result Asked Fault). read_comes_to z c.args.out.now) (sym is);
+      computed = plan_computed plan.code _ c.args.out.now c.print_plan.new.out (Ok c.in_ok-print_plan.field-0) printed ∙ ap (λ (z : Result Asked Fault). read_comes_to z c.args.out.now) (sym is);
       study = (asked plan, is, printed);
     }
