@@ -8,14 +8,8 @@ use printing::fault_line;
 use std::alloc::Global;
 use std::io::{Read, Write};
 use std::process::ExitCode;
-use study_file::Failure;
-use study_run::run_file;
-
-/// One byte more than a file may have: no more is read.
-const MOST_READ: u64 = 32769;
-
-/// A report of 4,096 steps has so many bytes, and no report has more.
-const MOST_PRINTED: usize = 57507;
+use study_file::{Failure, MOST_BYTES};
+use study_run::{MOST_PRINTED, run_file};
 
 /// Why there is no report.
 #[derive(Clone, Copy, PartialEq, Eq, Debug)]
@@ -49,8 +43,10 @@ fn text_of(heap: Global, file: &[u8], page: &mut [u8]) -> Result<usize, NoReport
 
 /// Prints the report of the file on standard input, or the line of its fault, which ends with status 1.
 fn print_study(rt: &HostRuntime) -> anyhow::Result<ExitCode> {
+    // One byte more than a file may have: no more is read.
+    let most_read = u64::from(MOST_BYTES) + 1;
     let mut file = Vec::new(rt.alloc());
-    rt.stdin().take(MOST_READ).read_to_end(&mut file)?;
+    rt.stdin().take(most_read).read_to_end(&mut file)?;
     let mut page = vec![in rt.alloc(); 0u8; MOST_PRINTED]?;
     match text_of(rt.alloc(), file.as_slice(), &mut page) {
         Ok(length) => {

@@ -3,7 +3,7 @@ use Rattle.std.specs.Prelude.{ℕ, Result, Ok, Err, ◌==◌, if◌then◌else�
 use Rattle.requests.specs.declared.lists.Base.{Base}
 use Rattle.requests.specs.declared.lists.Base.TheVariants.{Neat, Mesi}
 use Rattle.requests.specs.declared.lists.Buffers.{Buffers}
-use Rattle.requests.specs.declared.lists.Buffers.TheVariants.{None as NoBuffer, One, Two}
+use Rattle.requests.specs.declared.lists.Buffers.TheVariants.{Zero, One, Two}
 use Rattle.requests.specs.declared.stops.Stop.{Stop}
 use Rattle.requests.specs.declared.stops.Stop.TheVariants.{Broken}
 
@@ -13,4 +13,4 @@ base_named n = if n == 1 then Ok Neat else if n == 2 then Ok Mesi else Err Broke
 
 -- So many buffers, up to two.
 abbrev pub buffers_named : ℕ → Result Buffers Stop
-buffers_named n = if n == 0 then Ok NoBuffer else if n == 1 then Ok One else if n == 2 then Ok Two else Err Broken
+buffers_named n = if n == 0 then Ok Zero else if n == 1 then Ok One else if n == 2 then Ok Two else Err Broken

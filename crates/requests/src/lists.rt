@@ -7,8 +7,9 @@ ghost use Rattle.requests.specs.Lists.{base_named, buffers_named};
 use crate::stops::Stop;
 use protocol::Step;
 use std::alloc::Global;
+use std::fmt;
 use std::marker::Model;
-use study_file::Kind;
+use study_file::{Kind, step_of_fields};
 
 /// What is still to be read of some bytes.
 #[derive(Drop)]
@@ -40,7 +41,7 @@ pub enum Base {
 /// How many store buffers stand over it.
 #[derive(Clone, Copy, PartialEq, Eq, Debug)]
 pub enum Buffers {
-    None,
+    Zero,
     One,
     Two,
 }
@@ -121,10 +122,31 @@ impl TryFrom<u8> for Buffers {
 
     fn try_from(number: u8) -> Result<Buffers, Stop> {
         match number {
-            0 => Ok(Buffers::None),
+            0 => Ok(Buffers::Zero),
             1 => Ok(Buffers::One),
             2 => Ok(Buffers::Two),
             _ => Err(Stop::Broken),
+        }
+    }
+}
+
+/// Its number, as a list has it.
+impl fmt::Display for Base {
+    fn fmt<W: fmt::Write>(&self, f: &mut fmt::Formatter<W>) -> fmt::Result {
+        match self {
+            Base::Neat => write!(f, "1"),
+            Base::Mesi => write!(f, "2"),
+        }
+    }
+}
+
+/// Its number, as a list has it.
+impl fmt::Display for Buffers {
+    fn fmt<W: fmt::Write>(&self, f: &mut fmt::Formatter<W>) -> fmt::Result {
+        match self {
+            Buffers::Zero => write!(f, "0"),
+            Buffers::One => write!(f, "1"),
+            Buffers::Two => write!(f, "2"),
         }
     }
 }
@@ -173,11 +195,11 @@ impl<'a> Rest<'a> {
 
     /// A list, behind its length.
     fn list(&mut self) -> Result<&'a [u8], Stop>
-        requires { 0 < length self.old }
-        ensures { length self.new < length self.old }
+        ensures { OnOk result (length self.new < length self.old) }
     {
-        let length = [self.byte()?, self.byte()?, self.byte()?, self.byte()?];
-        self.part(u32::from_le_bytes(length) as usize)
+        let (length, rest) = self.bytes.split_first_chunk::<4>().ok_or(Stop::Broken)?;
+        self.bytes = rest;
+        self.part(u32::from_le_bytes(*length) as usize)
     }
 
     /// So many items.
@@ -250,32 +272,13 @@ impl<'a> Rest<'a> {
 impl FromRest for Step {
     fn from_rest(rest: &mut Rest) -> Result<Step, Stop> {
         let kind = Kind::try_from(u16::from(rest.byte()?)).map_err(|_| Stop::Broken)?;
-        Ok(match kind {
-            Kind::Load => Step::Load {
-                core: rest.byte()?,
-                address: rest.byte()?,
-            },
-            Kind::Store => Step::Store {
-                core: rest.byte()?,
-                address: rest.byte()?,
-                byte: rest.byte()?,
-            },
-            Kind::Acquire => Step::Acquire { core: rest.byte()? },
-            Kind::Release => Step::Release { core: rest.byte()? },
-            Kind::Evict => Step::Evict {
-                core: rest.byte()?,
-                line: rest.byte()?,
-            },
-            Kind::Move => Step::Move {
-                place: rest.byte()?,
-            },
-            Kind::Protocol => return Err(Stop::Broken),
-        })
+        step_of_fields(kind, rest.part(kind.fields())?).ok_or(Stop::Broken)
     }
 }
 
 impl FromRest for Part {
     fn from_rest(rest: &mut Rest) -> Result<Part, Stop> {
+        // A number is read where the part that it stands for is made: a kind between them would name each part twice.
         Ok(match rest.byte()? {
             1 => Part::Step { at: rest.byte()? },
             2 => Part::Run {

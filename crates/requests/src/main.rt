@@ -171,14 +171,14 @@ fn make_all<P: Protocol + Drop>(
 /// A list, over the protocol that it names.
 fn make(heap: Global, list: &[u8], text: &mut Text) -> Result<(), Stop> {
     let mut rest = Rest::new(list);
-    let (base, buffers) = (rest.byte()?, rest.byte()?);
-    let protocol = (Base::try_from(base)?, Buffers::try_from(buffers)?);
+    let base = Base::try_from(rest.byte()?)?;
+    let buffers = Buffers::try_from(rest.byte()?)?;
     text.heading(base, buffers)?;
     let requests = Requests::new(heap, rest);
     // One arm for each, since each protocol is a type of its own.
-    match protocol {
-        (Base::Neat, Buffers::None) => make_all(heap, Neat::new(), requests, text),
-        (Base::Mesi, Buffers::None) => make_all(heap, Mesi::new(), requests, text),
+    match (base, buffers) {
+        (Base::Neat, Buffers::Zero) => make_all(heap, Neat::new(), requests, text),
+        (Base::Mesi, Buffers::Zero) => make_all(heap, Mesi::new(), requests, text),
         (Base::Neat, Buffers::One) => {
             make_all(heap, StoreBuffer::new(Neat::new()), requests, text)
         }

@@ -1,5 +1,6 @@
 //! The text that is printed for a list.
 
+use crate::lists::{Base, Buffers};
 use bench::{Answer, Fault};
 use printing::fault_line;
 use protocol::{Refusal, Step};
@@ -30,7 +31,7 @@ impl Text {
     }
 
     /// A list's protocol and its number of buffers.
-    pub fn heading(&mut self, base: u8, buffers: u8) -> io::Result<()> {
+    pub fn heading(&mut self, base: Base, buffers: Buffers) -> io::Result<()> {
         writeln!(self.bytes, "list {base} {buffers}")
     }
 

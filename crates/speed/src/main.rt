@@ -13,8 +13,8 @@ use std::io::Read;
 use std::str::FromStr;
 use std::time::Instant;
 use store_buffer::StoreBuffer;
-use study_file::{Code, read};
-use study_run::run_file;
+use study_file::{Code, MOST_BYTES, read};
+use study_run::{MOST_PRINTED, run_file};
 
 /// How a study is made: its steps as one run; each of its core calls and then a settling; or the whole file, from its bytes to its report.
 #[derive(Clone, Copy, PartialEq, Eq, Debug)]
@@ -33,11 +33,6 @@ const SHORTEST: u128 = 300_000_000;
 
 /// The most rounds that are made.
 const ROUNDS: u32 = 10_000_000;
-
-/// A file has at most so many bytes, and its report at most so many.
-const MOST_READ: u64 = 32768;
-
-const MOST_PRINTED: usize = 57507;
 
 impl FromStr for Way {
     type Err = NoWay;
@@ -144,7 +139,9 @@ fn make<P: Protocol + Drop>(
 
 fn report(rt: &HostRuntime) -> anyhow::Result<()> {
     let mut input = Vec::new(rt.alloc());
-    rt.stdin().take(MOST_READ).read_to_end(&mut input)?;
+    rt.stdin()
+        .take(u64::from(MOST_BYTES))
+        .read_to_end(&mut input)?;
     let file = input.as_slice();
     let plan = read(rt.alloc(), file).map_err(|_| anyhow!("the file has a fault"))?;
     let steps = plan.steps.as_slice();
