@@ -1,5 +1,5 @@
 -- The search for an open place skips the nine places of a core of which none carries a message.
-use Rattle.std.proofs.Common.{◌≡◌, ℕ, zero, suc, ◌+◌, ◌/◌, ◌%◌, ◌<◌, ◌≤◌, Bool, true, false, cond, not, ◌||◌, eqb, ltb, sym, ap, ◌∙◌, subst, ap₂, ⊎_elim, add-zero, add-one, arith}
+use Rattle.std.proofs.Common.{◌≡◌, ℕ, zero, suc, ◌+◌, ◌/◌, ◌%◌, ◌<◌, ◌≤◌, true, false, cond, not, eqb, ltb, sym, ap, ◌∙◌, subst, ⊎_elim, add-zero, arith}
 use Rattle.std.proofs.lemmas.Bool.{cases_eq, eq-eqb, ne_eqb, cond-true, cond-false, cases_Bool, and_parts, not-true}
 use Rattle.neat_rules.specs.State.{State, some_below}
 use Rattle.neat_rules.specs.Reading.{carries, close_carries, open_in, next_open}
@@ -32,7 +32,3 @@ pub search_skips : (s : State) (n : ℕ) → n % 9 ≡ 0 → n < 72 → quiet (s
 search_skips s n e l q =
     search_past s n 9 (omega arith)
     (λ i m. let same : n / 9 ≡ (n + i) / 9 = omega arith in shut_there s (n + i) (subst (λ (c : ℕ). quiet (s.cores c) ≡ true) same q))
-
--- One line more.
-pub some_more : (n : ℕ) (f : ℕ → Bool) (x y : Bool) → x ≡ some_below n f → y ≡ f n → (x || y) ≡ some_below (n + 1) f
-some_more n f x y p q = ap₂ ◌||◌ p q ∙ ap (λ (k : ℕ). some_below k f) (sym (add-one n))

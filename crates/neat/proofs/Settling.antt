@@ -1,10 +1,10 @@
 -- Whether a slot of a core passes a test, and whether a Put or PutAck is left.
-use Rattle.std.proofs.Common.{◌≡◌, ℕ, zero, suc, ◌+◌, ◌<◌, ◌≤◌, Bool, true, false, not, if◌then◌else◌, ◌||◌, ◌&&◌, eqb, List, length, get_or, take, sym, refl, ap, ◌∙◌, add-zero, add-one, arith}
+use Rattle.std.proofs.Common.{◌≡◌, ℕ, zero, suc, ◌+◌, ◌<◌, ◌≤◌, Bool, true, false, not, if◌then◌else◌, ◌||◌, ◌&&◌, eqb, List, length, get_or, take, [], ◌∷◌, ◌++◌, sym, refl, ap, ap₂, ◌∙◌, add-zero, add-one, arith}
 use Rattle.std.proofs.Math.Bool.{or-false, or-true}
 use Rattle.std.specs.List.{list_any}
 use Rattle.std.proofs.lemmas.Bool.{ne_eqb}
 use Rattle.std.proofs.lemmas.List.{take_all}
-use Rattle.std.proofs.lemmas.List.Folds.{list_any_more}
+use Rattle.std.proofs.lemmas.List.Folds.{list_any_more, list_any-append}
 use Rattle.neat_rules.specs.State.{total, some_below, Place, Empty, GetLine, Data, Put, PutAck, Commit, Closing, Shut, Slot, Core}
 use Rattle.neat_rules.specs.Rules.{outstanding, shut, settled}
 use Rattle.neat.specs.declared.slot.Slot.{Slot as CodeSlot}
@@ -16,6 +16,10 @@ some_taken p xs d (suc n) h =
     ap (λ (k : ℕ). list_any p (take k xs)) (sym (add-one n))
     ∙ list_any_more p xs n d (omega arith)
     ∙ ap (λ (t : Bool). t || p (get_or xs n d)) (some_taken p xs d n (omega arith))
+
+-- One element more.
+pub any_push : {X : Type 0} (p : X → Bool) (xs : List X) (x : X) (a b : Bool) → a ≡ list_any p xs → b ≡ (a || p x) → b ≡ list_any p (xs ++ (x ∷ []))
+any_push p xs x a b e h = h ∙ ap₂ ◌||◌ e (sym (or-false (p x))) ∙ sym (list_any-append p xs (x ∷ []))
 
 -- A test of the slots, in turn or by their lines.
 pub some_slot : (q : Slot → Bool) (vs : List CodeSlot) → length vs ≡ 8 → list_any (λ v. q (as_slot v)) vs ≡ some_below 8 (λ l. q (as_slots vs l))

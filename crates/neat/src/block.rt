@@ -10,6 +10,7 @@ use protocol::Offset;
 #[derive(Clone, Copy)]
 pub struct Block {
     bytes: [u8; 8],
+    // A mask: whether a line is dirty is one test.
     written: u8,
 }
 
@@ -49,6 +50,7 @@ impl Block {
         ensures sent { as_block result ≡ as_block self.old }
         ensures kept { as_block self.new ≡ clean (as_block self.old).bytes }
     {
+        // Field by field: a copy of the whole block went through the stack, and releases were slower.
         let sent = Block {
             bytes: self.bytes,
             written: self.written,
@@ -69,6 +71,7 @@ impl Block {
     pub fn merge_into(&self, line: &mut [u8; 8])
         ensures { as_bytes line.new ≡ merged (as_block self.now) (as_bytes line.old) }
     {
+        // By the offset: a `zip` with `line.iter_mut()` tells a proof nothing of the line.
         for (offset, byte) in self.bytes.iter().enumerate() {
             if self.is_written(offset) {
                 line[offset] = *byte;

@@ -12,6 +12,7 @@ use crate::place::Place;
 use protocol::{Address, Core, Line, Reply};
 
 /// The cores' parts and the lines of the LLC.
+// They have no `Model`: a model's value is data, and Neat's rules are over functions of the core, the line and the offset.
 #[derive(Clone, Copy)]
 pub struct Caches {
     cores: [CorePart; 8],

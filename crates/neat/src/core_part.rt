@@ -26,6 +26,7 @@ pub enum Activity {
 }
 
 /// A core's part.
+// It has no `Model`: a model's value is data, and Neat's rules are over functions of the line.
 #[derive(Clone, Copy)]
 pub struct CorePart {
     slots: [Slot; 8],
@@ -132,6 +133,7 @@ impl CorePart {
         ensures { (rule : RuleLine → Place → RuleSlot) → SendsBy (F.post send) rule → (result, as_core self.new) ≡ closing_by rule (as_activity (Some activity)) (as_core self.old) }
     {
         let mut commits = 0;
+        // A loop: behind `iter_mut().map(send)` a proof knows nothing of the slots.
         for slot in self.slots.iter_mut() {
             commits += u8::from(send(slot));
         }
@@ -310,10 +312,10 @@ impl CorePart {
         ensures { result ≡ quiet (as_core self.now) }
     {
         // Without a branch for each place: with `any`, which leaves at the first message, settling was 5 parts in 100 slower.
-        let mut open = false;
-        for slot in &self.slots {
-            open |= slot.carries();
-        }
+        let open = self
+            .slots
+            .iter()
+            .fold(false, |open, slot| open | slot.carries());
         !open && !self.close_carries()
     }
 

@@ -20,9 +20,6 @@ impl TryFrom<u8> for Place {
     /// The place of that number: 9c+l is of core c and line l, 9c+8 is the close place of core c.
     fn try_from(number: u8) -> Result<Place, Refusal> {
         let core = Core::try_from(number / 9).map_err(|_| Refusal::PlaceNotOpen)?;
-        match Line::try_from(number % 9) {
-            Ok(line) => Ok(Place::Line(core, line)),
-            Err(_) => Ok(Place::Close(core)),
-        }
+        Ok(Line::try_from(number % 9).map_or(Place::Close(core), |line| Place::Line(core, line)))
     }
 }
