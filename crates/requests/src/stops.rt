@@ -1,7 +1,8 @@
 //! Why a list is not made to its end.
 
-ghost use Rattle.std.specs.Prelude.{◌≡◌};
+ghost use Rattle.std.specs.Prelude.{◌≡◌, true};
 ghost use Rattle.requests.specs.declared.stops.Stop.TheVariants.{Io};
+ghost use Rattle.requests.specs.Stops.{is_io};
 
 use std::alloc::{AllocError, AllocFailed};
 use std::io;
@@ -23,12 +24,16 @@ impl From<io::Error> for Stop {
 }
 
 impl From<AllocError> for Stop {
+    ghost from_gives = { λ _ s. is_io s ≡ true };
+
     fn from(error: AllocError) -> Stop {
         Stop::Io(io::Error::from(error))
     }
 }
 
 impl<T: Drop> From<AllocFailed<T>> for Stop {
+    ghost from_gives = { λ _ s. is_io s ≡ true };
+
     fn from(error: AllocFailed<T>) -> Stop {
         Stop::Io(io::Error::from(error))
     }
