@@ -25,7 +25,9 @@ fn empty_buffers() -> [CoreBuffer; 8]
     Default::default()
 }
 
-/// The core of that number, unless what else its call names is refused or the core waits.
+/// The core that calls. It is refused if there is no such core, if what else its call names is refused, or if the core waits.
+// Neat makes three like tests in `caller`. Who waits is each one's own state: a shared function would take that as a closure, and
+// promise the closure's answer.
 fn admit<T: Drop>(
     buffers: &[CoreBuffer; 8],
     core: u8,
@@ -35,7 +37,7 @@ fn admit<T: Drop>(
     ensures err { IfErr result (λ e. turned_down_by named (buffers_of buffers.now) core ≡ Some e) }
 {
     let core = Core::try_from(core)?;
-    let _ = named?;
+    named?;
     if buffers[core.index()].waits() {
         return Err(Refusal::CoreWaits);
     }
@@ -45,14 +47,13 @@ fn admit<T: Drop>(
 impl<P: Protocol> StoreBuffer<P> {
     /// The buffer over a protocol, both cleared. Over a protocol whose answers are a function of its state, so are the buffer's.
     #[tactic(auto, using(buffer_rules::proofs::ByFunction::buffered_by_function))]
-    pub fn new(below: P) -> StoreBuffer<P>
+    pub fn new(mut below: P) -> StoreBuffer<P>
         ensures fresh { (buffered P.machine).fresh (pile (P.state result.below) result.buffers) }
         ensures functional { AgainByFunction P.machine }
     {
-        let mut cleared = below;
-        cleared.clear();
+        below.clear();
         StoreBuffer {
-            below: cleared,
+            below,
             buffers: empty_buffers(),
         }
     }

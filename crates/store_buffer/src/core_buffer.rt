@@ -32,7 +32,6 @@ impl Model for CoreBuffer {
 }
 
 /// What a move answers that has made a waiting call go on.
-// No From: this takes a reply to a reply.
 fn in_move(reply: Reply) -> Reply
     ensures { result ≡ moved reply }
 {
@@ -43,8 +42,8 @@ fn in_move(reply: Reply) -> Reply
     }
 }
 
-// The protocol below and the core stay arguments: a struct that holds `&mut` to the buffer and to below has to promise in each
-// method that both are the same references afterwards.
+// Each method takes the core and the protocol below as arguments: a struct of `&mut` to the buffer and to the protocol below would
+// promise in each method that they are the same references afterwards.
 impl CoreBuffer {
     /// Whether the core waits for a call.
     pub fn waits(&self) -> bool
@@ -61,19 +60,16 @@ impl CoreBuffer {
         self.entries.iter().position(|e| e.address == address)
     }
 
-    /// The call stops with that reply: the core waits for it exactly if it waits.
+    /// A call stops with a reply: the core waits for the call if the reply is that it waits, and else for nothing.
     pub fn stop(&mut self, call: Step, reply: Reply) -> Reply
         ensures answer { result ≡ reply }
         ensures left { self.new ≡ record { entries = self.old.entries; pending = waiting call reply } }
     {
-        self.pending = match reply {
-            Reply::Waits => Some(call),
-            _ => None,
-        };
+        self.pending = (reply == Reply::Waits).then_some(call);
         reply
     }
 
-    /// The store of that entry ends.
+    /// Ends the store of an entry.
     fn end_store(&mut self, core: u8, entry: Entry) -> Reply
         ensures answer { result ≡ AtOnce (Stored core entry.address entry.byte) }
         ensures left { self.new ≡ record { entries = self.old.entries; pending = Nothing } }
@@ -86,7 +82,7 @@ impl CoreBuffer {
         })
     }
 
-    /// The entry of that store enters as the youngest, and the store ends.
+    /// Adds an entry as the youngest, and ends its store.
     fn enter(&mut self, core: u8, entry: Entry) -> Reply
         requires { length self.old.entries < capacity }
         ensures answer { result ≡ AtOnce (Stored core entry.address entry.byte) }
