@@ -1,7 +1,7 @@
 //! Digits of numbers.
 
 ghost use Rattle.std.specs.Prelude.{◌≡◌, ◌<◌, [], ◌∷◌};
-ghost use Rattle.report.specs.Digits.{hex_digit, byte_digits, digits_of};
+ghost use Rattle.report.specs.Digits.{hex_digit, byte_digits, decimal_digits, digits_of};
 
 /// One digit to base sixteen, in lower case.
 fn hex_digit(n: u8) -> u8
@@ -20,7 +20,8 @@ pub fn byte_digits(byte: u8) -> [u8; 2]
 
 /// A number as its last N digits to base ten.
 pub fn decimal_digits<const N: usize>(number: u16) -> [u8; N]
-    ensures { result ≡ digits_of N number }
+    ensures value { result ≡ digits_of N number }
+    ensures five { N ≡ 5 → result ≡ decimal_digits number }
 {
     let mut digits = [b'0'; N];
     let mut left = number;
