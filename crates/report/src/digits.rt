@@ -12,6 +12,7 @@ fn hex_digit(n: u8) -> u8
 }
 
 /// A byte as two digits to base sixteen.
+// By hand, and no `Display`: the contract pins both digits, and they are wanted as an array.
 pub fn byte_digits(byte: u8) -> [u8; 2]
     ensures { result ≡ byte_digits byte }
 {

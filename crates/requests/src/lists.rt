@@ -194,6 +194,7 @@ impl<'a> Rest<'a> {
     }
 
     /// A list, behind its length.
+    // The corpus of `conformance` has parts like this, in another program: there a part that is cut short ends the corpus, here it is an error.
     fn list(&mut self) -> Result<&'a [u8], Stop>
         ensures { OnOk result (length self.new < length self.old) }
     {

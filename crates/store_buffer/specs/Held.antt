@@ -23,7 +23,8 @@ pile s bs = record { below = s; buffers = buffers_of bs }
 abbrev pub Does : (M : Machine) → Work → M.State → Reply → Buffer → M.State → Type 0
 Does M w s r b t = Runs M.steps w s (r, b) t
 
--- The refusal of what a call names, or of a core that waits.
+-- The refusal of what a call names, or of a core that waits. (The code of Neat has a step like this one: each leads to the table of refusals
+-- of its own rules.)
 abbrev pub unless_named : {X : Type 0} → Result X Refusal → Option Refusal → Option Refusal
 unless_named (Ok x) later = later
 unless_named (Err e) later = Some e

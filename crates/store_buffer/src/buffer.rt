@@ -26,8 +26,8 @@ fn empty_buffers() -> [CoreBuffer; 8]
 }
 
 /// The core that calls. It is refused if there is no such core, if what else its call names is refused, or if the core waits.
-// Neat makes three like tests in `caller`. Who waits is each one's own state: a shared function would take that as a closure, and
-// promise the closure's answer.
+// Neat makes three like tests in `caller`. Who waits is each one's own state: a shared function would be public, take that as a
+// closure, and ask that it may be called, which no public call here does.
 fn admit<T: Drop>(
     buffers: &[CoreBuffer; 8],
     core: u8,

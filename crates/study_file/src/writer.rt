@@ -50,6 +50,7 @@ fn put_record(page: &mut Page<'_>, kind: Kind, fields: &[u8])
 }
 
 /// Puts the record of a step into a page.
+// A match, and no table of closures: each kind of step has fields of its own.
 fn put_step(page: &mut Page<'_>, step: Step)
     ensures { Puts page.old page.new (step_record step) }
 {
