@@ -46,6 +46,8 @@ impl Neat {
     }
 
     /// The core that calls and what it names, or why the call is refused.
+    // The store buffer makes three like tests in `admit`. Who waits is each one's own state: a shared function would be public, take that as
+    // a closure, and ask that it may be called, which no public call here does.
     fn caller<T: Drop>(&self, core: u8, named: Result<T, Refusal>) -> Result<(Core, T), Refusal>
         ensures refused { refusal_of result ≡ cond (nat_le 8 core) (Some NoSuchCore) (or_else (refusal_of named) (busy ((moment (as_state self.now.caches)).waits core))) }
         ensures called { IfOk result (λ p. (p.0.number ≡ core) × (named ≡ Ok p.1)) }

@@ -7,6 +7,7 @@ use bench::Fault;
 use report::{Page, decimal_digits};
 
 /// The line of a fault, with its line end.
+// Piece by piece, as `ended_line` of `report`: the reason stands there.
 pub fn fault_line(fault: Fault) -> [u8; 29]
     ensures { result ≡ fault_line fault }
 {

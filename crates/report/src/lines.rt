@@ -117,6 +117,8 @@ pub fn step_line(step: Step, outcome: Outcome) -> [u8; 14]
 }
 
 /// The line of the counts, with its line end.
+// Piece by piece, as the lines of faults and of the protocol in the crates above: each has other pieces, and a function over a list of
+// pieces would leave as many lines, and slices of slices.
 pub fn ended_line(ended: u16, race: u16) -> [u8; 23]
     ensures { result ≡ ended_line ended race }
 {

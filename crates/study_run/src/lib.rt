@@ -19,6 +19,7 @@ use study_file::{Code, Failure, read};
 pub const MOST_PRINTED: usize = 57507;
 
 /// The line of the protocol's code, with its line end.
+// Piece by piece, as `ended_line` of `report`: the reason stands there.
 fn heading(code: Code) -> [u8; 11]
     ensures { result ≡ heading_of code }
 {
