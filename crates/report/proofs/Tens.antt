@@ -28,10 +28,3 @@ far_more digits n total place left digit some most e f =
 -- Five digits.
 pub five_digits : (n : ℕ) → digits_of 5 n ≡ decimal_digits n
 five_digits n = ap (λ m. (48 + n / 10000 % 10) ∷ (48 + n / 1000 % 10) ∷ (48 + n / 100 % 10) ∷ (48 + n / 10 % 10) ∷ (48 + m % 10) ∷ []) (div-one n)
-
--- All digits, where they are five.
-pub five_so_far : (digits : List ℕ) (n total place left : ℕ) → DigitsFar digits n total place left → place ≤ 0 → total ≡ 5 → digits ≡ decimal_digits n
-five_so_far digits n total place left f done is =
-    let first : place ≡ 0 = omega (arith, done) in
-    let whole : total - place ≡ 5 = omega (arith, done, is) in
-    sym (ap (λ k. drop k digits) first) ∙ (f.there ∙ (ap (λ k. digits_of k n) whole ∙ five_digits n))

@@ -20,9 +20,8 @@ pub fn byte_digits(byte: u8) -> [u8; 2]
 }
 
 /// A number as its last N digits to base ten.
-pub fn decimal_digits<const N: usize>(number: u16) -> [u8; N]
-    ensures value { result ≡ digits_of N number }
-    ensures five { N ≡ 5 → result ≡ decimal_digits number }
+pub fn last_digits<const N: usize>(number: u16) -> [u8; N]
+    ensures { result ≡ digits_of N number }
 {
     let mut digits = [b'0'; N];
     let mut left = number;
@@ -32,4 +31,11 @@ pub fn decimal_digits<const N: usize>(number: u16) -> [u8; N]
         left /= 10;
     }
     digits
+}
+
+/// A number as five digits to base ten.
+pub fn decimal_digits(n: u16) -> [u8; 5]
+    ensures { result ≡ decimal_digits n }
+{
+    last_digits(n)
 }

@@ -5,6 +5,6 @@ mod digits;
 mod lines;
 mod page;
 
-pub use digits::{byte_digits, decimal_digits};
+pub use digits::{byte_digits, decimal_digits, last_digits};
 pub use lines::{ended_line, step_line};
 pub use page::Page;

@@ -84,7 +84,8 @@ fn refusal_shown(outcome: Outcome) -> [u8; 2]
     ensures { result ≡ refusal_shown outcome }
 {
     match outcome {
-        Outcome::Refused(refusal) => decimal_digits(u16::from(u8::from(refusal))),
+        // A refusal has one digit: with the loop of `last_digits` here, the line of a refused step took four fifths longer.
+        Outcome::Refused(refusal) => [b'0', b'0' + u8::from(refusal)],
         _ => *b"00",
     }
 }
@@ -125,9 +126,9 @@ pub fn ended_line(ended: u16, race: u16) -> [u8; 23]
     let mut line = [0; 23];
     let mut page = Page::new(&mut line);
     page.put(b"ended ");
-    page.put(&decimal_digits::<5>(ended));
+    page.put(&decimal_digits(ended));
     page.put(b" race ");
-    page.put(&decimal_digits::<5>(race));
+    page.put(&decimal_digits(race));
     page.put(b"\n");
     line
 }

@@ -33,14 +33,27 @@ impl<'a> Page<'a> {
         self.filled
     }
 
+    /// Writes bytes that there is room for behind what was written.
+    fn put_whole(&mut self, bytes: &[u8])
+        requires { length bytes.now ≤ length (rest self.old) }
+        ensures { Puts self.old self.new bytes.now }
+    {
+        let end = self.filled + bytes.len();
+        let buffer = &mut *self.buffer;
+        buffer[self.filled..end].copy_from_slice(bytes);
+        self.filled = end;
+    }
+
     /// Writes some bytes behind what was written, as far as there is room.
     pub fn put(&mut self, bytes: &[u8])
         ensures { Puts self.old self.new bytes.now }
     {
-        let fit = bytes.len().min(self.buffer.len() - self.filled);
-        let end = self.filled + fit;
-        let buffer = &mut *self.buffer;
-        buffer[self.filled..end].copy_from_slice(&bytes[..fit]);
-        self.filled = end;
+        let room = self.buffer.len() - self.filled;
+        // Two cases, and no `min`: a piece whose length is known is then copied by a few moves, and a `min` made a call of each copy.
+        if bytes.len() <= room {
+            self.put_whole(bytes);
+        } else {
+            self.put_whole(&bytes[..room]);
+        }
     }
 }

@@ -2,15 +2,14 @@
 use Rattle.std.proofs.Common.{◌+◌, ◌∷◌, ◌++◌, length, codes, ap, ◌∙◌, arith, rules}
 use Rattle.report.specs.Lines.{line_end}
 use Rattle.report.proofs.Paging.{puts_more, puts_line}
-use Rattle.report.proofs.Tens.{five_digits}
 use Rattle.printing.specs.Page.{fault_line, two_digits}
 use Rattle.printing.proofs.TwoDigits.{digits_of-two}
 use Rattle.printing.proofs.faults.fault_line.Goals as goal
 
 pub returns : goal.returns
 returns c =
-    let cause = c.decimal_digits.ensures.value ∙ (digits_of-two _ ∙ ap two_digits (c.from-2.ensures ∙ c.from.ensures)) in
-    let place = c.decimal_digits-2.ensures.value ∙ five_digits c.args.fault.place in
+    let cause = c.last_digits.ensures ∙ (digits_of-two _ ∙ ap two_digits (c.from-2.ensures ∙ c.from.ensures)) in
+    let place = c.decimal_digits.ensures in
     search rules
     ∙ puts_line (fault_line c.args.fault) c.new-page.ensures.written (let room = ap length c.new-page.ensures.rest in omega arith)
     (puts_more _ _ c.put.ensures (puts_more _ _ c.put-2.ensures (puts_more _ _ c.put-3.ensures (puts_more _ _ c.put-4.ensures (puts_more _ _ c.put-5.ensures (puts_more _ _ c.put-6.ensures c.put-7.ensures))))))
