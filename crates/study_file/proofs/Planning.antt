@@ -9,6 +9,7 @@ use Rattle.bench.specs.declared.faults.Cause.TheVariants.{TooLong}
 use Rattle.bench.specs.declared.faults.Fault.{Fault}
 use Rattle.study_file.specs.declared.codes.Code.{Code}
 use Rattle.study_file.specs.declared.record.Record.{Record}
+use Rattle.study_file.specs.Codes.{fields_of}
 use Rattle.study_file.specs.declared.plans.Failure.{Failure}
 use Rattle.study_file.specs.declared.plans.Failure.TheVariants.{Fault as HasFault, OutOfMemory}
 use Rattle.study_file.specs.Records.{Found, most_bytes, reader_fault, record_at, or_none, next_at, next_record, place_after, found_next}
@@ -123,6 +124,13 @@ read_is file = go (ltb most_bytes (length file))
 module _ (file f : List ℕ) (p : ℕ) (f_is : f ≡ file) (p_is : p ≡ 0) where
   pub read_next : (x : Result (Option Found) Fault) → x ≡ next_record p f → read_file file ≡ plan_of x file
   read_next x e = read_is file ∙ (λ i. plan_of (sym (e ∙ (λ j. next_record (p_is j) (f_is j))) i) file)
+
+  pub first_sound : (r : Found) → Ok (Some r) ≡ next_record p f → length r.body ≡ fields_of r.kind
+  first_sound r e = go (ltb most_bytes (length f)) e
+    where
+      go : (b : Bool) → Ok (Some r) ≡ cond b (Err (reader_fault TooLong most_bytes)) (next_at p (drop p f)) → length r.body ≡ fields_of r.kind
+      go true q = absurd cc
+      go false q = (next_sound p (drop p f) r (sym q)).fit
 
   pub read_code : (r : Found) (y : Result Code Fault) → Ok (Some r) ≡ next_record p f → y ≡ code_in r → read_file file ≡ then_code y (λ c. with_code c (steps_from most_steps (size_of r) (drop (size_of r) file)))
   read_code r y e h = read_next (Ok (Some r)) e ∙ ap (λ (z : Result Code Fault). then_code z (λ c. with_code c (steps_from most_steps (size_of r) (drop (size_of r) file)))) (sym h)

@@ -1,5 +1,5 @@
 -- What the writer answers, and what its buffer holds after it.
-use Rattle.std.specs.Prelude.{ℕ, cond, List, ◌++◌, length, drop, Some, None, Ok, Err, Option, Result, nat_lt}
+use Rattle.std.specs.Prelude.{ℕ, ◌+◌, cond, List, ◌++◌, length, take, drop, Some, None, Ok, Err, Option, Result, nat_lt}
 use Rattle.protocol.specs.declared.steps.Step.{Step}
 use Rattle.bench.specs.declared.faults.Cause.{Cause}
 use Rattle.bench.specs.declared.faults.Cause.TheVariants.{UnknownCode, TooLong, OutputTooShort}
@@ -13,6 +13,10 @@ use Rattle.study_file.specs.Files.{file_of}
 -- A fault of the caller: place 0.
 abbrev pub caller_fault : Cause → Fault
 caller_fault why = record { cause = why; place = 0; layer = Caller }
+
+-- A buffer with some bytes written into it from a place on.
+abbrev pub with_bytes : List ℕ → ℕ → List ℕ → List ℕ
+with_bytes buffer at bytes = take at buffer ++ (bytes ++ drop (at + length bytes) buffer)
 
 -- A file goes to the start of a buffer that has room for it, and the rest stays.
 abbrev pub put_file : List ℕ → List ℕ → Result ℕ Fault × List ℕ

@@ -1,6 +1,7 @@
 //! The plan: the protocol and the steps that a file asks for.
 
 ghost use Rattle.std.specs.Prelude.{◌≡◌, ◌≤◌, length, drop, vec_items};
+ghost use Rattle.study_file.specs.Codes.{fields_of};
 ghost use Rattle.study_file.specs.Records.{most_bytes, held};
 ghost use Rattle.study_file.specs.Plans.{item_of, step_of_fields, code_in, step_in, most_steps, steps_from, read_file, asked, Answers};
 ghost use Rattle.study_file.specs.Laws.{Exact, WritesBack};
@@ -91,6 +92,7 @@ pub fn step_of_fields(kind: Kind, fields: &[u8]) -> Option<Step>
 
 /// Takes a record apart into its fields.
 fn item_of(record: Record<'_>) -> Item
+    requires { length «record».body.now ≡ fields_of «record».kind }
     ensures { result ≡ item_of «record».entry.kind «record».entry.body.now }
 {
     match (step_of_fields(record.kind, record.body), record.body) {
@@ -102,6 +104,7 @@ fn item_of(record: Record<'_>) -> Item
 
 /// The code that the first record has to name.
 fn code_of(record: Record<'_>) -> Result<Code, Fault>
+    requires { length «record».body.now ≡ fields_of «record».kind }
     ensures { result ≡ code_in (held «record».entry) }
 {
     match item_of(record) {
@@ -114,6 +117,7 @@ fn code_of(record: Record<'_>) -> Result<Code, Fault>
 
 /// The step that every later record has to be.
 fn step_of(record: Record<'_>) -> Result<Step, Fault>
+    requires { length «record».body.now ≡ fields_of «record».kind }
     ensures { result ≡ step_in (held «record».entry) }
 {
     match item_of(record) {

@@ -4,7 +4,7 @@ use Rattle.std.specs.declared.alloc.Global.{Global}
 use Rattle.study_file.specs.declared.plans.Failure.TheVariants.{Fault as HasFault}
 use Rattle.study_file.specs.Records.{held}
 use Rattle.study_file.specs.Plans.{asked, with_code}
-use Rattle.study_file.proofs.Planning.{read_next, read_code, read_all, answers_all, handed, handed_place, fault_exit, same_exit}
+use Rattle.study_file.proofs.Planning.{read_next, first_sound, read_code, read_all, answers_all, handed, handed_place, fault_exit, same_exit}
 use Rattle.study_file.proofs.Trips.{promised}
 use Rattle.study_file.proofs.plans.read.Goals as goal
 
@@ -22,6 +22,10 @@ returns-in_default c =
     (
     read_next c.args.file.now _ _ c.new-reader.ensures.file c.new-reader.ensures.place _ (handed _ _ _ c.in_default.is c.in_ok-first.ensures.next) ∙ ap Err (sym c.fault.ensures)
     )
+
+pub code_of-requires : goal.code_of-requires
+code_of-requires c =
+    first_sound c.args.file.now _ _ c.new-reader.ensures.file c.new-reader.ensures.place (held c.in-Some.first) (handed _ _ _ c.in-Some.is c.in_ok-first.ensures.next)
 
 pub returns-in_err-code : goal.returns-in_err-code
 returns-in_err-code c =

@@ -1,13 +1,16 @@
 -- Each record carries the reading on, or ends it as the rules say.
 use Rattle.std.proofs.Common.{Err, vec_items, sym, ap, ◌∙◌, arith}
 use Rattle.study_file.specs.Records.{held}
-use Rattle.study_file.proofs.Planning.{going_end, going_fault, going_bad, going_full, going_again, handed, handed_place, fault_exit}
+use Rattle.study_file.proofs.Planning.{going_end, going_fault, going_sound, going_bad, going_full, going_again, handed, handed_place, fault_exit}
 use Rattle.study_file.proofs.plans.read_steps.Goals as goal
 
 pub returns-in_err-record : goal.returns-in_err-record
 returns-in_err-record c =
     fault_exit vec_items _ c.from_residual-in_err-record.result c.in_err-record.field-0.0 c.from_residual-in_err-record.ensures.1
     (going_fault _ _ _ _ c.loop-steps.invariant c.in_err-record.field-0.0 c.in_err-record.ensures.next)
+
+pub step_of-requires : goal.step_of-requires
+step_of-requires c = (going_sound _ _ _ _ c.loop-steps.invariant (held c.in-Some.record) (handed _ _ _ c.in-Some.is c.in_ok-record.ensures.next)).fit
 
 pub returns-in_err-step : goal.returns-in_err-step
 returns-in_err-step c =

@@ -1,9 +1,6 @@
--- The records of the steps so far are put.
-use Rattle.std.proofs.Common.{take}
-use Rattle.std.specs.List.{flat_map}
-use Rattle.report.specs.Page.{Puts}
-use Rattle.study_file.specs.Files.{step_record}
+-- The records of the steps so far stand in the buffer.
+use Rattle.study_file.proofs.Filling.{Filled}
 use Rattle.study_file.proofs.writer.put_steps.Given as goal
 
 abbrev pub invariant-loop-step : goal.invariant-loop-step
-invariant-loop-step l = Puts l.initial.page l.page (flat_map step_record (take l.step-index l.steps))
+invariant-loop-step l = Filled l.initial.buffer l.start l.steps l.step-index l.buffer l.at
