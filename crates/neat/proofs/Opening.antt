@@ -1,5 +1,5 @@
 -- A place by its number: whether it is open, its move, and the search for the first that is open.
-use Rattle.std.proofs.Common.{◌≡◌, ℕ, suc, ◌+◌, ◌-◌, ◌/◌, ◌%◌, ◌<◌, Bool, true, false, cond, eqb, ltb, Some, None, Ok, Err, Result, sym, refl, ap, ◌∙◌, ap₂, arith}
+use Rattle.std.proofs.Common.{◌≡◌, ℕ, suc, ◌+◌, ◌-◌, ◌/◌, ◌%◌, ◌<◌, ◌≤◌, Bool, true, false, cond, eqb, ltb, Some, None, Ok, Err, Result, sym, refl, ap, ◌∙◌, ap₂, arith}
 use Rattle.std.proofs.lemmas.Bool.{eq-eqb, ne_eqb, cond-true, cond-false}
 use Rattle.protocol.specs.Rules.{guarded}
 use Rattle.protocol.specs.declared.steps.Refusal.{Refusal}
@@ -60,3 +60,9 @@ search_more s n h e = ap (λ (k : ℕ). first_open k s n) (more n h) ∙ cond-fa
 
 pub search_found : (s : State) (n : ℕ) → n < 72 → open_in s n ≡ true → Some n ≡ next_open s n
 search_found s n h e = sym (ap (λ (k : ℕ). first_open k s n) (more n h) ∙ cond-true (open_in s n) (Some n) (first_open (72 - (n + 1)) s (n + 1)) e)
+
+pub search_done : (s : State) (n : ℕ) → 72 ≤ n → None ≡ next_open s n
+search_done s n h = sym (ap (λ (k : ℕ). first_open k s n) (none n h))
+  where
+    none : (n : ℕ) → 72 ≤ n → 72 - n ≡ 0
+    none n h = omega arith
