@@ -1,5 +1,6 @@
 -- The first of some outcomes whose move has ended a call, as `find_map` finds it.
-use Rattle.std.proofs.Common.{◌≡◌, ℕ, zero, suc, ◌+◌, ◌<◌, List, [], ◌∷◌, length, get_or, Some, None, Option, option_map, sym, refl, ap, ◌∙◌, arith}
+use Rattle.std.proofs.Common.{◌≡◌, ℕ, zero, suc, ◌+◌, ◌<◌, Bool, List, [], ◌∷◌, ◌++◌, length, get_or, take, Some, None, Option, option_map, sym, refl, ap, ◌∙◌, arith}
+use Rattle.std.proofs.lemmas.List.{take_more}
 use Rattle.std.specs.Prelude.{IsSomeAnd, IfSome, MatchOption, IsTrue}
 use Rattle.std.specs.Iterator.Runs.{Run, SomeRun, YieldsRefsInOrder, AllItemsGive, IsFirstToGive}
 use Rattle.std.specs.Slice.Iter.{iter_steps, iter_rest}
@@ -9,8 +10,34 @@ use denote.Param.Members.{Mut}
 use denote.Ref.{Bor}
 use Rattle.protocol.specs.declared.steps.Ended.{Ended}
 use Rattle.races.specs.declared.outcomes.Outcome.{Outcome}
-use Rattle.races.specs.declared.outcomes.Outcome.TheVariants.{Waits}
+use Rattle.races.specs.declared.outcomes.Outcome.TheVariants.{Refused, Waits, Ended as HasEnded, Moved, Finished}
 use Rattle.bench.specs.Handovers.{finished_call, else_later, first_finished}
+
+-- The first call ended in one list and then another.
+finished_append : (xs ys : List Outcome) → first_finished (xs ++ ys) ≡ else_later (first_finished xs) (first_finished ys)
+finished_append [] ys = refl
+finished_append (x ∷ xs) ys = ap (else_later (finished_call x)) (finished_append xs ys) ∙ regroup (finished_call x)
+  where
+    regroup : (o : Option Ended) → else_later o (else_later (first_finished xs) (first_finished ys)) ≡ else_later (else_later o (first_finished xs)) (first_finished ys)
+    regroup (Some z) = refl
+    regroup None = refl
+
+-- Where none was ended before, the next outcome decides.
+pub finished_next : (xs : List Outcome) (i : ℕ) (r d : Outcome) → i < length xs → first_finished (take i xs) ≡ None → get_or xs i d ≡ r → first_finished (take (i + 1) xs) ≡ finished_call r
+finished_next xs i r d l h e =
+    ap first_finished (take_more xs i d l ∙ ap (λ (z : Outcome). take i xs ++ z ∷ []) e)
+    ∙ (finished_append (take i xs) (r ∷ []) ∙ (ap (λ (o : Option Ended). else_later o (else_later (finished_call r) None)) h ∙ else_none (finished_call r)))
+  where
+    else_none : (o : Option Ended) → else_later o None ≡ o
+    else_none (Some x) = refl
+    else_none None = refl
+
+pub finished_none : (r : Outcome) → ((x : Ended) (race : Bool) → r ≡ Finished x race → ⊥) → finished_call r ≡ None
+finished_none (Refused e) h = refl
+finished_none Waits h = refl
+finished_none (HasEnded x race) h = refl
+finished_none Moved h = refl
+finished_none (Finished x race) h = absurd (h x race refl)
 
 -- No move has ended a call; or the move at i has, and none before it.
 none_finished : (xs : List Outcome) → ((k : ℕ) → k < length xs → finished_call (get_or xs k Waits) ≡ None) → first_finished xs ≡ None

@@ -1,6 +1,6 @@
 -- The room that some requests want, and whether it fits, as `try_fold` finds it.
-use Rattle.std.proofs.Common.{◌≡◌, ℕ, ◌+◌, ◌-◌, ◌<◌, ◌≤◌, leb, List, [], ◌∷◌, length, get_or, drop, sym, ap, ◌∙◌, arith}
-use Rattle.std.proofs.lemmas.List.{drop_more}
+use Rattle.std.proofs.Common.{◌≡◌, ℕ, ◌+◌, ◌-◌, ◌<◌, ◌≤◌, leb, List, [], ◌∷◌, ◌++◌, length, get_or, take, drop, sym, ap, ◌∙◌, arith}
+use Rattle.std.proofs.lemmas.List.{take-append-drop, drop_more, take_more}
 use Rattle.std.proofs.lemmas.Bool.{le-leb, lt-leb}
 use Rattle.std.proofs.Common.{Iter, Option, Some, None, is_some, subst, refl}
 use Rattle.std.specs.Prelude.{MatchOption, SomeIff}
@@ -14,6 +14,17 @@ use denote.Param.Members.{Mut}
 use denote.Ref.{Bor}
 use Rattle.bench.specs.declared.requests.Request.{Request}
 use Rattle.bench.specs.Requests.{room_of, rooms_of}
+
+pub rooms_append : (xs ys : List Request) → rooms_of (xs ++ ys) ≡ rooms_of xs + rooms_of ys
+rooms_append [] ys = omega arith
+rooms_append (x ∷ xs) ys = let h = rooms_append xs ys in omega arith
+
+pub rooms_split : (xs : List Request) (i : ℕ) → rooms_of xs ≡ rooms_of (take i xs) + rooms_of (drop i xs)
+rooms_split xs i = ap rooms_of (sym (take-append-drop i xs)) ∙ rooms_append (take i xs) (drop i xs)
+
+-- One request more.
+pub rooms_more : (xs : List Request) (i : ℕ) (d : Request) → i < length xs → rooms_of (take (i + 1) xs) ≡ rooms_of (take i xs) + room_of (get_or xs i d)
+rooms_more xs i d h = let p = rooms_append (take i xs) (get_or xs i d ∷ []) in ap rooms_of (take_more xs i d h) ∙ omega arith
 
 pub rooms_less : (xs : List Request) (i : ℕ) (d : Request) → i < length xs → rooms_of (drop i xs) ≡ room_of (get_or xs i d) + rooms_of (drop (i + 1) xs)
 rooms_less xs i d h = ap rooms_of (drop_more xs i d h)
