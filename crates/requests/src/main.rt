@@ -150,6 +150,9 @@ impl<P: Protocol> Desk<'_, P> {
     }
 }
 
+/// The most lists that are made of an input, and the most requests of a list.
+const MOST_MADE: usize = 16_777_216;
+
 /// All requests of a list, over a protocol.
 fn make_all<P: Protocol + Drop>(
     heap: Global,
@@ -162,7 +165,7 @@ fn make_all<P: Protocol + Drop>(
         bench: Bench::new(protocol),
         text,
     };
-    for request in requests {
+    for request in requests.take(MOST_MADE) {
         desk.make(request?)?;
     }
     Ok(())
@@ -190,23 +193,28 @@ fn make(heap: Global, list: &[u8], text: &mut Text) -> Result<(), Stop> {
     }
 }
 
-/// The text of a list.
-fn text_of(heap: Global, list: Result<&[u8], Stop>) -> io::Result<Text> {
+/// The text of a list. Nothing can be wanting for it but memory.
+fn text_of(heap: Global, list: &[u8]) -> Result<Text, AllocError> {
     let mut text = Text::new(heap);
-    match list.and_then(|bytes| make(heap, bytes, &mut text)) {
-        Ok(()) => {}
-        Err(Stop::Broken) => text.line("broken")?,
-        Err(Stop::Io(error)) => return Err(error),
-    }
+    let made = match make(heap, list, &mut text) {
+        Err(Stop::Broken) => text.line("broken"),
+        Err(Stop::Io(error)) => Err(error),
+        Ok(()) => Ok(()),
+    };
+    made.map_err(|_| AllocError)?;
     Ok(text)
 }
 
 fn answer(rt: &HostRuntime) -> anyhow::Result<()> {
     let mut input = Vec::new(rt.alloc());
     rt.stdin().read_to_end(&mut input)?;
-    for list in Lists::new(input.as_slice()) {
-        let text = text_of(rt.alloc(), list)?;
-        rt.stdout().write_all(text.as_bytes())?;
+    for list in Lists::new(input.as_slice()).take(MOST_MADE) {
+        match list {
+            Ok(list) => rt
+                .stdout()
+                .write_all(text_of(rt.alloc(), list)?.as_bytes())?,
+            Err(_) => rt.stdout().write_all(b"broken\n")?,
+        }
     }
     Ok(())
 }
