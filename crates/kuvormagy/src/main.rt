@@ -44,10 +44,11 @@ fn text_of(heap: Global, file: &[u8], page: &mut [u8]) -> Result<usize, NoReport
 /// Prints the report of the file on standard input, or the line of its fault, which ends with status 1.
 fn print_study(rt: &HostRuntime) -> anyhow::Result<ExitCode> {
     // One byte more than a file may have: no more is read.
-    let most_read = u64::from(MOST_BYTES) + 1;
-    let mut file = Vec::new(rt.alloc());
-    rt.stdin().take(most_read).read_to_end(&mut file)?;
+    let most_read = usize::from(MOST_BYTES) + 1;
+    // Both buffers are made before anything is read, and the file's has a byte of room past that: reading asks for no memory.
+    let mut file = Vec::with_capacity(rt.alloc(), most_read + 1)?;
     let mut page = vec![in rt.alloc(); 0u8; MOST_PRINTED]?;
+    rt.stdin().take(most_read as u64).read_to_end(&mut file)?;
     match text_of(rt.alloc(), file.as_slice(), &mut page) {
         Ok(length) => {
             page.truncate(length);

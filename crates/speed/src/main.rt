@@ -115,7 +115,13 @@ fn make<P: Protocol + Drop>(
     way: Option<Way>,
 ) -> anyhow::Result<()> {
     let mut bench = Bench::new(protocol);
-    let mut outcomes = vec![in rt.alloc(); Outcome::Waits; steps.len()]?;
+    // A whole file is run into a page, and has no list of outcomes.
+    let room = if way == Some(Way::File) {
+        0
+    } else {
+        steps.len()
+    };
+    let mut outcomes = vec![in rt.alloc(); Outcome::Waits; room]?;
     let speed = match way {
         Some(Way::Run) => timed(rt, || run(&mut bench, steps, &mut outcomes))?,
         Some(Way::Settle) => timed(rt, || Ok(settle(&mut bench, steps, &mut outcomes)))?,
@@ -138,7 +144,8 @@ fn make<P: Protocol + Drop>(
 }
 
 fn report(rt: &HostRuntime) -> anyhow::Result<()> {
-    let mut input = Vec::new(rt.alloc());
+    // The input has a byte of room past what is read: reading asks for no memory.
+    let mut input = Vec::with_capacity(rt.alloc(), usize::from(MOST_BYTES) + 1)?;
     rt.stdin()
         .take(u64::from(MOST_BYTES))
         .read_to_end(&mut input)?;
