@@ -74,40 +74,39 @@ impl Protocol for Neat {
 
     // Each call turns a refusal into its reply. One function for all, with what is done as a closure, can't show that a step leads to the
     // state in which it ends: the numbers in that step are not among what it is given.
-    // It returns a refusal at once: as the value of its arm, every reply was put together once more, and a refused call took twice as long.
 
     fn load(&mut self, core: u8, address: u8) -> Reply {
         match self.caller(core, Address::try_from(address)) {
             Ok((core, address)) => self.caches.load(core, address),
-            Err(refusal) => return Reply::Refused(refusal),
+            Err(refusal) => Reply::Refused(refusal),
         }
     }
 
     fn store(&mut self, core: u8, address: u8, byte: u8) -> Reply {
         match self.caller(core, Address::try_from(address)) {
             Ok((core, address)) => self.caches.store(core, address, byte),
-            Err(refusal) => return Reply::Refused(refusal),
+            Err(refusal) => Reply::Refused(refusal),
         }
     }
 
     fn acquire(&mut self, core: u8) -> Reply {
         match self.caller(core, Ok(())) {
             Ok((core, ())) => self.caches.acquire(core),
-            Err(refusal) => return Reply::Refused(refusal),
+            Err(refusal) => Reply::Refused(refusal),
         }
     }
 
     fn release(&mut self, core: u8) -> Reply {
         match self.caller(core, Ok(())) {
             Ok((core, ())) => self.caches.release(core),
-            Err(refusal) => return Reply::Refused(refusal),
+            Err(refusal) => Reply::Refused(refusal),
         }
     }
 
     fn evict(&mut self, core: u8, line: u8) -> Reply {
         match self.caller(core, Line::try_from(line)) {
             Ok((core, line)) => self.caches.evict(core, line),
-            Err(refusal) => return Reply::Refused(refusal),
+            Err(refusal) => Reply::Refused(refusal),
         }
     }
 
